@@ -1,0 +1,4 @@
+pub mod Channels
+pub mod Operations
+pub mod Rows
+pub mod Picture

@@ -1,0 +1,7 @@
+use Rattle.std.specs.Prelude.{ℕ, List, [], ◌∷◌}
+use Rattle.xs_pixel.specs.Channels.{Channels}
+
+-- a row of bytes as a list of pixels: each four bytes are red, green, blue and matte
+abbrev pub pixels : List ℕ → List Channels
+pixels (r ∷ g ∷ b ∷ m ∷ rest) = record { r = r; g = g; b = b; m = m } ∷ pixels rest
+pixels _ = []

@@ -1,0 +1,18 @@
+//! Pixels and the eight operations on them, lists that may cross threads, and the one error for
+//! want of memory. Every other crate stands on this one.
+#![tactic(auto)]
+
+pub mod film;
+pub mod laws;
+pub mod list;
+pub mod memory;
+pub mod operation;
+pub mod pixel;
+pub mod style;
+
+pub use film::Film;
+pub use list::List;
+pub use memory::Memory;
+pub use operation::{Op, add, apply, matte_in, matte_out, max, min, mul255, mult, over, sub};
+pub use pixel::Pixel;
+pub use style::Style;

@@ -1,0 +1,91 @@
+ghost use Rattle.std.specs.Prelude.{◌≡◌, ◌↔◌, IsSome, IfSome};
+
+use crate::operation::mul255;
+use std::marker::Model;
+
+/// A premultiplied pixel: red, green, blue and matte (opacity), each from 0 to 255, no colour above
+/// the matte.
+#[derive(Clone, Copy, Debug, PartialEq, Eq)]
+pub struct Pixel {
+    pub(crate) r: u8,
+    pub(crate) g: u8,
+    pub(crate) b: u8,
+    pub(crate) m: u8,
+}
+
+impl Model for Pixel {
+    ghost use Rattle.xs_pixel.specs.Channels.{Channels, IsPixel, channels};
+
+    ghost Value = { Channels };
+
+    ghost view = { λ p. channels p.r p.g p.b p.m };
+
+    ghost invariant = { λ p. IsPixel (channels p.r p.g p.b p.m) };
+
+    ghost inverse = { λ c. record { r = c.r; g = c.g; b = c.b; m = c.m } };
+}
+
+impl Pixel {
+    ghost use Rattle.xs_pixel.specs.Channels.{Channels, IsPixel, channels, clear};
+    ghost use Rattle.xs_pixel.specs.Operations.{faded_of};
+
+    /// No colour and no matte.
+    pub const CLEAR: Pixel = Pixel {
+        r: 0,
+        g: 0,
+        b: 0,
+        m: 0,
+    };
+
+    /// The pixel with these channels; None exactly where a colour exceeds the matte.
+    pub fn new(r: u8, g: u8, b: u8, m: u8) -> Option<Pixel>
+        ensures valid { IsSome result ↔ IsPixel (channels r g b m) }
+        ensures value { IfSome result (λ p. p ≡ channels r g b m) }
+    {
+        if r <= m && g <= m && b <= m {
+            Some(Pixel { r, g, b, m })
+        } else {
+            None
+        }
+    }
+
+    /// Red.
+    pub fn r(self) -> u8
+        ensures { result ≡ self.r }
+    {
+        self.r
+    }
+
+    /// Green.
+    pub fn g(self) -> u8
+        ensures { result ≡ self.g }
+    {
+        self.g
+    }
+
+    /// Blue.
+    pub fn b(self) -> u8
+        ensures { result ≡ self.b }
+    {
+        self.b
+    }
+
+    /// Matte: 0 is clear, 255 is opaque.
+    pub fn m(self) -> u8
+        ensures { result ≡ self.m }
+    {
+        self.m
+    }
+
+    /// This pixel with each channel multiplied by `part` of 255.
+    pub(crate) fn faded(self, part: u8) -> Pixel
+        ensures { result ≡ faded_of self part }
+    {
+        Pixel {
+            r: mul255(self.r, part),
+            g: mul255(self.g, part),
+            b: mul255(self.b, part),
+            m: mul255(self.m, part),
+        }
+    }
+}
