@@ -1,2 +1,3 @@
 pub mod Products
 pub mod StaysPixel
+pub mod Rows

@@ -1,0 +1,110 @@
+-- Laws of a row of bytes seen as pixels. A place or a count of bytes is four times one of pixels.
+use Rattle.std.proofs.Common.{◌≡◌, ℕ, ◌+◌, ◌-◌, ◌*◌, ◌≤◌, ◌<◌, zero, suc, List, [], ◌∷◌, ◌++◌, length, take, drop, get_or, refl, sym, ap, ◌∙◌, arith}
+use Rattle.std.specs.Simd.Lanes.{Each1, zip2, chunk, put_chunk}
+use Rattle.std.proofs.Math.Seq.{take-add}
+use Rattle.std.proofs.lemmas.List.{length-take-le}
+use Rattle.std.proofs.lemmas.Simd.{Each1-chunk}
+use Rattle.xs_pixel.specs.Channels.{Channels, channels}
+use Rattle.xs_pixel.specs.Rows.{pixels}
+
+-- whole pixels before more bytes
+pub pixels-append : (n : ℕ) (xs ys : List ℕ) → length xs ≡ 4 * n → pixels (xs ++ ys) ≡ pixels xs ++ pixels ys
+pixels-append n [] ys whole = refl
+pixels-append n (r ∷ []) ys whole = absurd (omega arith)
+pixels-append n (r ∷ g ∷ []) ys whole = absurd (omega arith)
+pixels-append n (r ∷ g ∷ b ∷ []) ys whole = absurd (omega arith)
+pixels-append n (r ∷ g ∷ b ∷ m ∷ xs) ys whole =
+    ap (λ ps. channels r g b m ∷ ps) (pixels-append (n - 1) xs ys (omega arith))
+
+pub length-pixels : (n : ℕ) (xs : List ℕ) → length xs ≡ 4 * n → length (pixels xs) ≡ n
+length-pixels n [] whole = omega arith
+length-pixels n (r ∷ []) whole = absurd (omega arith)
+length-pixels n (r ∷ g ∷ []) whole = absurd (omega arith)
+length-pixels n (r ∷ g ∷ b ∷ []) whole = absurd (omega arith)
+length-pixels n (r ∷ g ∷ b ∷ m ∷ xs) whole =
+    let rest : length (pixels xs) ≡ n - 1 = length-pixels (n - 1) xs (omega arith) in omega arith
+
+pub pixels-take : (i k : ℕ) (xs : List ℕ) → i ≡ 4 * k → pixels (take i xs) ≡ take k (pixels xs)
+pixels-take zero zero xs at = refl
+pixels-take zero (suc k) xs at = absurd (omega arith)
+pixels-take (suc zero) k xs at = absurd (omega arith)
+pixels-take (suc (suc zero)) k xs at = absurd (omega arith)
+pixels-take (suc (suc (suc zero))) k xs at = absurd (omega arith)
+pixels-take (suc (suc (suc (suc i)))) zero xs at = absurd (omega arith)
+pixels-take (suc (suc (suc (suc i)))) (suc k) [] at = refl
+pixels-take (suc (suc (suc (suc i)))) (suc k) (r ∷ []) at = refl
+pixels-take (suc (suc (suc (suc i)))) (suc k) (r ∷ g ∷ []) at = refl
+pixels-take (suc (suc (suc (suc i)))) (suc k) (r ∷ g ∷ b ∷ []) at = refl
+pixels-take (suc (suc (suc (suc i)))) (suc k) (r ∷ g ∷ b ∷ m ∷ xs) at =
+    ap (λ ps. channels r g b m ∷ ps) (pixels-take i k xs (omega arith))
+
+pub pixels-drop : (i k : ℕ) (xs : List ℕ) → i ≡ 4 * k → pixels (drop i xs) ≡ drop k (pixels xs)
+pixels-drop zero zero xs at = refl
+pixels-drop zero (suc k) xs at = absurd (omega arith)
+pixels-drop (suc zero) k xs at = absurd (omega arith)
+pixels-drop (suc (suc zero)) k xs at = absurd (omega arith)
+pixels-drop (suc (suc (suc zero))) k xs at = absurd (omega arith)
+pixels-drop (suc (suc (suc (suc i)))) zero xs at = absurd (omega arith)
+pixels-drop (suc (suc (suc (suc i)))) (suc k) [] at = refl
+pixels-drop (suc (suc (suc (suc i)))) (suc k) (r ∷ []) at = refl
+pixels-drop (suc (suc (suc (suc i)))) (suc k) (r ∷ g ∷ []) at = refl
+pixels-drop (suc (suc (suc (suc i)))) (suc k) (r ∷ g ∷ b ∷ []) at = refl
+pixels-drop (suc (suc (suc (suc i)))) (suc k) (r ∷ g ∷ b ∷ m ∷ xs) at = pixels-drop i k xs (omega arith)
+
+pub pixels-chunk : (i k m n : ℕ) (xs : List ℕ) → i ≡ 4 * k → m ≡ 4 * n → pixels (chunk i m xs) ≡ chunk k n (pixels xs)
+pixels-chunk i k m n xs at long = pixels-take m n (drop i xs) long ∙ ap (take n) (pixels-drop i k xs at)
+
+-- what a row holds after whole pixels were written over it
+pub pixels-put_chunk : (i k n : ℕ) (xs ys : List ℕ) → i ≡ 4 * k → length ys ≡ 4 * n → pixels (put_chunk i xs ys) ≡ put_chunk k (pixels xs) (pixels ys)
+pixels-put_chunk i k n [] ys at whole = refl
+pixels-put_chunk zero zero n (x ∷ []) [] at whole = refl
+pixels-put_chunk zero zero n (x ∷ y ∷ []) [] at whole = refl
+pixels-put_chunk zero zero n (x ∷ y ∷ z ∷ []) [] at whole = refl
+pixels-put_chunk zero zero n (x ∷ y ∷ z ∷ w ∷ xs) [] at whole = refl
+pixels-put_chunk zero (suc k) n xs ys at whole = absurd (omega arith)
+pixels-put_chunk zero zero n xs (r ∷ []) at whole = absurd (omega arith)
+pixels-put_chunk zero zero n xs (r ∷ g ∷ []) at whole = absurd (omega arith)
+pixels-put_chunk zero zero n xs (r ∷ g ∷ b ∷ []) at whole = absurd (omega arith)
+pixels-put_chunk zero zero n (x ∷ []) (r ∷ g ∷ b ∷ m ∷ ys) at whole = refl
+pixels-put_chunk zero zero n (x ∷ y ∷ []) (r ∷ g ∷ b ∷ m ∷ ys) at whole = refl
+pixels-put_chunk zero zero n (x ∷ y ∷ z ∷ []) (r ∷ g ∷ b ∷ m ∷ ys) at whole = refl
+pixels-put_chunk zero zero n (x ∷ y ∷ z ∷ w ∷ xs) (r ∷ g ∷ b ∷ m ∷ ys) at whole =
+    ap (λ ps. channels r g b m ∷ ps) (pixels-put_chunk zero zero (n - 1) xs ys refl (omega arith))
+pixels-put_chunk (suc zero) k n xs ys at whole = absurd (omega arith)
+pixels-put_chunk (suc (suc zero)) k n xs ys at whole = absurd (omega arith)
+pixels-put_chunk (suc (suc (suc zero))) k n xs ys at whole = absurd (omega arith)
+pixels-put_chunk (suc (suc (suc (suc i)))) zero n xs ys at whole = absurd (omega arith)
+pixels-put_chunk (suc (suc (suc (suc i)))) (suc k) n (x ∷ []) ys at whole = refl
+pixels-put_chunk (suc (suc (suc (suc i)))) (suc k) n (x ∷ y ∷ []) ys at whole = refl
+pixels-put_chunk (suc (suc (suc (suc i)))) (suc k) n (x ∷ y ∷ z ∷ []) ys at whole = refl
+pixels-put_chunk (suc (suc (suc (suc i)))) (suc k) n (x ∷ y ∷ z ∷ w ∷ xs) ys at whole =
+    ap (λ ps. channels x y z w ∷ ps) (pixels-put_chunk i k n xs ys (omega arith) whole)
+
+-- one pixel, from its four bytes
+pub pixel_of_chunk : (i k : ℕ) (xs : List ℕ) (d : Channels) → i ≡ 4 * k → i + 4 ≤ length xs → pixels (chunk i 4 xs) ≡ get_or (pixels xs) k d ∷ []
+pixel_of_chunk zero zero (r ∷ g ∷ b ∷ m ∷ xs) d at room = refl
+pixel_of_chunk zero (suc k) xs d at room = absurd (omega arith)
+pixel_of_chunk (suc zero) k xs d at room = absurd (omega arith)
+pixel_of_chunk (suc (suc zero)) k xs d at room = absurd (omega arith)
+pixel_of_chunk (suc (suc (suc zero))) k xs d at room = absurd (omega arith)
+pixel_of_chunk (suc (suc (suc (suc i)))) zero xs d at room = absurd (omega arith)
+pixel_of_chunk (suc (suc (suc (suc i)))) (suc k) (r ∷ g ∷ b ∷ m ∷ xs) d at room = pixel_of_chunk i k xs d (omega arith) (omega arith)
+pixel_of_chunk i k [] d at room = absurd (omega arith)
+pixel_of_chunk i k (r ∷ []) d at room = absurd (omega arith)
+pixel_of_chunk i k (r ∷ g ∷ []) d at room = absurd (omega arith)
+pixel_of_chunk i k (r ∷ g ∷ b ∷ []) d at room = absurd (omega arith)
+
+-- the step of a loop that goes through a row by m bytes
+pub take_more_pixels : (i k m : ℕ) (xs : List ℕ) → i ≡ 4 * k → i ≤ length xs → pixels (take (i + m) xs) ≡ pixels (take i xs) ++ pixels (chunk i m xs)
+take_more_pixels i k m xs at within =
+    ap pixels (take-add i m xs) ∙ pixels-append k (take i xs) (chunk i m xs) (length-take-le i xs within ∙ at)
+
+-- what holds of each pixel of a row holds of each in a part
+pub chunk_of_pixels : (P : Channels → Type 0) (i k m n : ℕ) (xs : List ℕ) → i ≡ 4 * k → m ≡ 4 * n → Each1 P (pixels xs) → Each1 P (pixels (chunk i m xs))
+chunk_of_pixels P i k m n xs at long each = rw (pixels-chunk i k m n xs at long) (Each1-chunk P k n (pixels xs) each)
+
+pub zip2-append : {A B C : Type 0} (f : A → B → C) (us more : List A) (vs rest : List B) → length us ≡ length vs → zip2 f (us ++ more) (vs ++ rest) ≡ zip2 f us vs ++ zip2 f more rest
+zip2-append f [] more [] rest same = refl
+zip2-append f [] more (v ∷ vs) rest same = absurd (omega arith)
+zip2-append f (u ∷ us) more [] rest same = absurd (omega arith)
+zip2-append f (u ∷ us) more (v ∷ vs) rest same = ap (λ ws. f u v ∷ ws) (zip2-append f us more vs rest (omega arith))
