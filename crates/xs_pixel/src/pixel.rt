@@ -1,4 +1,6 @@
-ghost use Rattle.std.specs.Prelude.{◌≡◌, ◌↔◌, IsSome, IfSome};
+ghost use Rattle.std.specs.Prelude.{◌≡◌, ◌↔◌, [], ◌∷◌, IsSome, IfSome};
+ghost use Rattle.std.specs.Simd.Lanes.{Each1};
+ghost use Rattle.xs_pixel.specs.Rows.{pixels};
 
 use crate::operation::mul255;
 use std::marker::Model;
@@ -49,6 +51,23 @@ impl Pixel {
         }
     }
 
+    /// The pixel with these bytes, which are red, green, blue and matte.
+    pub fn from_bytes(bytes: [u8; 4]) -> Pixel
+        requires { Each1 IsPixel (pixels bytes) }
+        ensures { pixels bytes ≡ result ∷ [] }
+    {
+        let [r, g, b, m] = bytes;
+        Pixel { r, g, b, m }
+    }
+
+    /// Red, green, blue and matte.
+    pub fn to_bytes(self) -> [u8; 4]
+        ensures bytes { pixels result ≡ self ∷ [] }
+        ensures valid { IsPixel self }
+    {
+        [self.r, self.g, self.b, self.m]
+    }
+
     /// Red.
     pub fn r(self) -> u8
         ensures { result ≡ self.r }
@@ -72,7 +91,8 @@ impl Pixel {
 
     /// Matte: 0 is clear, 255 is opaque.
     pub fn m(self) -> u8
-        ensures { result ≡ self.m }
+        ensures value { result ≡ self.m }
+        ensures valid { IsPixel self }
     {
         self.m
     }

@@ -1,0 +1,6 @@
+//! Pixels of CM32 drawings: a word names an ink style and a paint style and says how they mix.
+#![tactic(auto)]
+
+pub mod word;
+
+pub use word::{colour, word_layout, Cm32};

@@ -1,0 +1,77 @@
+ghost use Rattle.std.specs.Prelude.{◌≡◌, ℕ, ◌<◌, ◌^◌};
+ghost use Rattle.xs_cm32.specs.Word.{ink_of, paint_of, tone_of, word_of, mixed, colour_of};
+
+use std::marker::Model;
+
+use xs_pixel::Pixel;
+
+/// A pixel of a CM32 drawing, as its word: the number of the ink style in the high 12 bits, that of
+/// the paint style in the next 12, and the tone in the low 8. Tone 0 is pure ink, 255 pure paint.
+#[derive(Clone, Copy, Debug, PartialEq, Eq)]
+pub struct Cm32(pub u32);
+
+impl Model for Cm32 {
+    ghost use Rattle.std.specs.Prelude.{ℕ};
+
+    ghost Value = { ℕ };
+
+    ghost view = { λ w. w.0 };
+
+    ghost inverse = { λ n. record { 0 = n } };
+}
+
+impl Cm32 {
+    /// The number of the ink style, below 4096.
+    pub fn ink(self) -> u32
+        ensures number { result ≡ ink_of self }
+        ensures small { result < 4096 }
+    {
+        self.0 >> 20
+    }
+
+    /// The number of the paint style, below 4096.
+    pub fn paint(self) -> u32
+        ensures number { result ≡ paint_of self }
+        ensures small { result < 4096 }
+    {
+        (self.0 >> 8) & 0xfff
+    }
+
+    /// How much of the paint there is, in parts of 255.
+    pub fn tone(self) -> u8
+        ensures { result ≡ tone_of self }
+    {
+        (self.0 & 0xff) as u8
+    }
+}
+
+/// The layout of a word: its three parts determine it, and every three parts in range have a word.
+pub fn word_layout()
+    ensures determined { (w : ℕ) → word_of (ink_of w) (paint_of w) (tone_of w) ≡ w }
+    ensures ink { (i p t : ℕ) → p < 4096 → t < 256 → ink_of (word_of i p t) ≡ i }
+    ensures paint { (i p t : ℕ) → p < 4096 → t < 256 → paint_of (word_of i p t) ≡ p }
+    ensures tone { (i p t : ℕ) → t < 256 → tone_of (word_of i p t) ≡ t }
+    ensures fits { (i p t : ℕ) → i < 4096 → p < 4096 → t < 256 → word_of i p t < 2 ^ 32 }
+{
+}
+
+/// A channel of the mix, by the tone.
+fn mix(tone: u8, ink: u8, paint: u8) -> u8
+    ensures { result ≡ mixed tone ink paint }
+{
+    ((ink as u16 * (255 - tone) as u16 + paint as u16 * tone as u16) / 255) as u8
+}
+
+/// The colour of `w` with these premultiplied pixels of its ink and its paint.
+pub fn colour(w: Cm32, ink: Pixel, paint: Pixel) -> Pixel
+    ensures { result ≡ colour_of w ink paint }
+{
+    let tone = w.tone();
+    Pixel::new(
+        mix(tone, ink.r(), paint.r()),
+        mix(tone, ink.g(), paint.g()),
+        mix(tone, ink.b(), paint.b()),
+        mix(tone, ink.m(), paint.m()),
+    )
+    .unwrap()
+}
