@@ -25,7 +25,7 @@ mixed tone ink paint = (ink * (255 - tone) + paint * tone) / 255
 abbrev pub colour_of : ℕ → Channels → Channels → Channels
 colour_of w ink paint =
     record
-      { r = mixed (tone_of w) ink.r paint.r; g = mixed (tone_of w) ink.g paint.g; b = mixed (tone_of w) ink.b paint.b; m = mixed (tone_of w) ink.m paint.m }
+    { r = mixed (tone_of w) ink.r paint.r; g = mixed (tone_of w) ink.g paint.g; b = mixed (tone_of w) ink.b paint.b; m = mixed (tone_of w) ink.m paint.m }
 
 -- the colour of a word under a palette, which gives each style number its pixel
 abbrev pub colour_under : (ℕ → Channels) → ℕ → Channels

@@ -3,4 +3,4 @@
 
 pub mod word;
 
-pub use word::{colour, word_layout, Cm32};
+pub use word::{Cm32, colour, word_layout};

@@ -2,7 +2,6 @@ ghost use Rattle.std.specs.Prelude.{◌≡◌, ℕ, ◌<◌, ◌^◌};
 ghost use Rattle.xs_cm32.specs.Word.{ink_of, paint_of, tone_of, word_of, mixed, colour_of};
 
 use std::marker::Model;
-
 use xs_pixel::Pixel;
 
 /// A pixel of a CM32 drawing, as its word: the number of the ink style in the high 12 bits, that of
@@ -52,10 +51,10 @@ pub fn word_layout()
     ensures paint { (i p t : ℕ) → p < 4096 → t < 256 → paint_of (word_of i p t) ≡ p }
     ensures tone { (i p t : ℕ) → t < 256 → tone_of (word_of i p t) ≡ t }
     ensures fits { (i p t : ℕ) → i < 4096 → p < 4096 → t < 256 → word_of i p t < 2 ^ 32 }
-{
-}
+{}
 
 /// A channel of the mix, by the tone.
+#[tactic(auto, unfolding(crate::specs::Word::mixed))]
 fn mix(tone: u8, ink: u8, paint: u8) -> u8
     ensures { result ≡ mixed tone ink paint }
 {
@@ -67,11 +66,10 @@ pub fn colour(w: Cm32, ink: Pixel, paint: Pixel) -> Pixel
     ensures { result ≡ colour_of w ink paint }
 {
     let tone = w.tone();
-    Pixel::new(
+    Pixel::from_bytes([
         mix(tone, ink.r(), paint.r()),
         mix(tone, ink.g(), paint.g()),
         mix(tone, ink.b(), paint.b()),
         mix(tone, ink.m(), paint.m()),
-    )
-    .unwrap()
+    ])
 }
