@@ -37,6 +37,10 @@ pub record Meets (IsCard : Style → Type 0) (IsPlace : Point → Type 0) (k : S
   pub cards : (n : ℕ) (style : Style) → slice_get k.nodes n ≡ Some (Card style) → IsCard style
   pub places : (c row : ℕ) → IsPlace (place_of k (column_at k c).peg row)
 
+-- of which nothing need be known
+pub meets-any : (k : SheetRecord) → Meets (λ style. Unit {0}) (λ q. Unit {0}) k
+meets-any k = record { cards = λ n style is. tt; places = λ c row. tt }
+
 module _ {A B : Type 0} (R : Reading A) (S : Reading B) (T : ℕ → A → B → Type 0)
     (F : Dropped → Dropped → Type 0) (IsCard : Style → Type 0) (IsPlace : Point → Type 0)
     (agrees : Agrees R S T F IsCard IsPlace) where

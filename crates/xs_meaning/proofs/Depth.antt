@@ -1,5 +1,5 @@
 -- Where every way ends, more depth changes nothing, and the rules hold as equations
-use Rattle.std.proofs.Common.{ℕ, zero, suc, ◌-◌, ◌≡◌, ◌≤◌, ◌<◌, refl, sym, ap, ap₂, ◌∙◌, subst, Bool, Option, Some, None, List, [], ◌∷◌, map, find, slice_get, length, All, IfSome, arith, ⊎_elim}
+use Rattle.std.proofs.Common.{ℕ, zero, suc, ◌+◌, ◌-◌, ◌≡◌, ◌≤◌, ◌<◌, refl, sym, ap, ap₂, ◌∙◌, subst, Bool, Option, Some, None, List, [], ◌∷◌, map, find, slice_get, length, All, IfSome, arith, ⊎_elim}
 use Rattle.std.specs.Option.{option_map_or}
 use Rattle.std.proofs.lemmas.Bool.{cases_lt}
 use Rattle.std.proofs.lemmas.List.Elements.{All-head, All-tail}
@@ -118,14 +118,14 @@ seen_by-same R rows rows' (Drawing level index) row f same = refl
 seen_by-same R rows rows' (Row sheet inner) row f same = same inner f
 
 -- P holds of each sheet that a sheet's columns show
-abbrev ShowsOnly : (ℕ → Type 0) → SheetRecord → Type 0
+abbrev pub ShowsOnly : (ℕ → Type 0) → SheetRecord → Type 0
 ShowsOnly P k = All (λ column. All (λ e. ShownHas P e.shown) column.cells) k.columns
 
 ShownHas-map : (P Q : ℕ → Type 0) → ((j : ℕ) → P j → Q j) → (shown : Shown) → ShownHas P shown → ShownHas Q shown
 ShownHas-map P Q leads (ShowsDrawing level index) has = tt
 ShownHas-map P Q leads (Sheet sheet start) has = leads sheet has
 
-ShowsOnly-map : (P Q : ℕ → Type 0) → ((j : ℕ) → P j → Q j) → (k : SheetRecord) → ShowsOnly P k → ShowsOnly Q k
+pub ShowsOnly-map : (P Q : ℕ → Type 0) → ((j : ℕ) → P j → Q j) → (k : SheetRecord) → ShowsOnly P k → ShowsOnly Q k
 ShowsOnly-map P Q leads k shows = λ i column lt j e below. ShownHas-map P Q leads _ (shows i column lt j e below)
 
 column_by-same :
@@ -256,3 +256,41 @@ place_of-peg sheets ends k i row lt =
         ≡ plus (own_offset (peg_at (sheet_at sheets k) i).keys row)
         (place_up m (sheet_at sheets k) (peg_at (sheet_at sheets k) i).parent row)
     one_deeper m = unfold place_up in refl
+
+-- no way through a sheet's nodes is longer than the sheet has nodes
+pub whole_input-deeper :
+    {A : Type 0} (R : Reading A) (sheets : List SheetRecord) → AllEnd sheets
+    → (more k : ℕ) (n : Ref) (row : ℕ) (f : Dropped)
+    → walk R (whole_row R sheets) (sheet_at sheets k) (depth_of (sheet_at sheets k) + more) n row f
+    ≡ whole_input R sheets k n row f
+unfolding walk
+whole_input-deeper R sheets ends more k n row f =
+    ap (λ m. walk R (whole_row R sheets) (sheet_at sheets k) m n row f)
+    (let is : depth_of (sheet_at sheets k) + more ≡ suc (length (sheet_at sheets k).nodes + more) = omega arith in is)
+    ∙ deeper n
+  where
+    rest : ℕ
+    rest = length (sheet_at sheets k).nodes
+
+    past : (m n : ℕ) → rest ≤ n → walk R (whole_row R sheets) (sheet_at sheets k) (suc m) (ToNode n) row f ≡ R.nothing
+    past m n le =
+        ap (λ node. node_by R (walk R (whole_row R sheets) (sheet_at sheets k) m) node row f)
+        (slice_get_past (sheet_at sheets k).nodes n le)
+
+    deeper : (n : Ref)
+        → walk R (whole_row R sheets) (sheet_at sheets k) (suc (rest + more)) n row f
+        ≡ walk R (whole_row R sheets) (sheet_at sheets k) (suc rest) n row f
+    deeper (ToColumn c) = refl
+    deeper (ToNode n) =
+        ⊎_elim
+        (λ lt.
+        walk-deeper R (whole_row R sheets) (sheet_at sheets k) rest (rest + more) (omega arith) (ToNode n)
+        (ends.nodes k n lt) row f)
+        (λ le. past (rest + more) n le ∙ sym (past rest n le))
+        (cases_lt n rest)
+
+pub whole_row-deeper :
+    {A : Type 0} (R : Reading A) (sheets : List SheetRecord) → AllEnd sheets
+    → (more k row : ℕ) (f : Dropped) → row_walk R sheets (16 + more) k row f ≡ whole_row R sheets k row f
+whole_row-deeper R sheets ends more k row f =
+    row_walk-deeper R sheets 16 (16 + more) (omega arith) k (ends.sheets_end k) row f

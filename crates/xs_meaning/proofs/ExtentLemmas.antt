@@ -3,14 +3,14 @@ use Rattle.std.proofs.Common.{ℕ, max, ◌≡◌, refl, sym, ap, ap₂, ◌∙�
 use Rattle.xs_pixel.specs.Channels.{Channels}
 use Rattle.xs_pixel.specs.declared.operation.Op.{Op}
 use Rattle.xs_scene.specs.declared.node.Ref.{Ref}
-use Rattle.xs_scene.specs.Records.{SceneRecord, SheetRecord, ColoursRecord}
+use Rattle.xs_scene.specs.Records.{SceneRecord, ColoursRecord}
 use Rattle.xs_meaning.specs.Drawings.{colours_of, number_of}
 use Rattle.xs_meaning.specs.Expressions.{Expr, Clear, Leaf, Tinted, Card, Pair, Blur, is_clear, Staying, Both, First, Second, Neither, staying, pair_staying, pair_of, blur_of, card_of, leaf_by, by_offsets, row_expr, input_expr, reach_of}
 use Rattle.xs_meaning.specs.Extents.{extent_of, extent_staying, wider, by_extent}
 use Rattle.xs_meaning.specs.Palettes.{Dropped, keeping, deleting, is_as_written, is_clear_pixel, pixel_of, tint_at}
 use Rattle.xs_meaning.specs.Points.{Point, plus}
 use Rattle.xs_meaning.specs.Walk.{sheet_at, whole_row, whole_input, depth_of}
-use Rattle.xs_meaning.proofs.Agree.{Agrees, Meets, row_walk-agrees, walk-agrees}
+use Rattle.xs_meaning.proofs.Agree.{Agrees, row_walk-agrees, walk-agrees, meets-any}
 use Rattle.xs_meaning.proofs.Lists.{by_test}
 
 pub is_none-extent_of : (e : Expr) → is_none (extent_of e) ≡ is_clear e
@@ -92,9 +92,6 @@ agrees s =
       keep = λ styles f g same. ap (keeping styles) same;
       delete = λ styles f g same. ap (deleting styles) same;
     }
-
-pub meets-any : (k : SheetRecord) → Meets (λ style. Unit {0}) (λ q. Unit {0}) k
-meets-any k = record { cards = λ n style is. tt; places = λ c row. tt }
 
 pub extent-row_expr :
     (s : SceneRecord) (k row : ℕ) (f : Dropped) (o : Point)

@@ -9,7 +9,11 @@ pub mod SameValue
 pub mod Depth
 pub mod Offsets
 pub mod LeafOffsets
+pub mod StateLemmas
+pub mod TableLemmas
+pub mod Ranks
 pub mod ExtentLemmas
 pub mod Canonical
-pub mod Filters
+pub mod SamePixels
+pub mod UnusedStyles
 pub mod OwnDrawings

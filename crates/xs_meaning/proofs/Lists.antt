@@ -1,5 +1,5 @@
 -- Lemmas on lists, options and tests that std lacks
-use Rattle.std.proofs.Common.{ℕ, zero, suc, ◌≡◌, refl, Bool, true, false, cond, List, [], ◌∷◌, map, slice_get, get_or, All, IfSome, arith, ◌&&◌}
+use Rattle.std.proofs.Common.{ℕ, zero, suc, ◌≡◌, refl, Bool, true, false, cond, List, [], ◌∷◌, map, slice_get, get_or, All, IfSome, arith, ◌&&◌, ◌||◌}
 use Rattle.std.proofs.lemmas.List.Elements.{All-tail}
 
 -- what holds of each element holds of one by its index
@@ -28,3 +28,11 @@ both_true false b same = cc
 pub by_test : {X : Type 0} (P : X → Type 0) (b : Bool) (x y : X) → (b ≡ true → P x) → (b ≡ false → P y) → P (cond b x y)
 by_test P true x y passes fails = passes refl
 by_test P false x y passes fails = fails refl
+
+pub or_false : (b : Bool) → (b || false) ≡ b
+or_false true = refl
+or_false false = refl
+
+pub and_false : (b : Bool) → (b && false) ≡ false
+and_false true = refl
+and_false false = refl

@@ -136,3 +136,12 @@ pub value-root_of :
 value-root_of s pictures range pixels row p =
     value-row_expr s pictures range pixels 0 row none_dropped (opposite (camera_at s row)) p
     ∙ ap (row_of s pictures 0 row) (minus-opposite p (camera_at s row))
+
+-- each pixel of a row is a pixel
+pub IsPixel-row_under :
+    (s : SceneRecord) (pictures : Pictures) → IsSceneInRange s → ArePixels pictures
+    → (k row : ℕ) (f : Dropped) (p : Point) → IsPixel (row_under s pictures k row f p)
+IsPixel-row_under s pictures range pixels k row f p =
+    (row_walk-agrees (by_points s pictures) (by_offsets s) (λ d image e. SameValue s pictures image e)
+    (λ f g. f ≡ g) IsStyleInRange (λ q. Unit {0}) (agrees s pictures range pixels)
+    s.sheets (meets-in_range s range) 16 k row f f refl).pixel p

@@ -12,4 +12,5 @@ pub mod Extents
 pub mod Agreement
 pub mod Bounds
 pub mod Ends
+pub mod Tables
 pub mod States

@@ -1,19 +1,20 @@
--- Filters and palette keys that leave every style its pixel change no expression, and filters that
--- name no style that is used change no value
-use Rattle.std.proofs.Common.{ℕ, ◌≡◌, ◌==◌, ◌||◌, ◌&&◌, not, nat_lt, refl, sym, ap, ap₂, ◌∙◌, Bool, true, false, cond, Option, Some, None, slice_get, IfSome}
+-- Filters and palette keys that leave every style its pixel change no expression
+use Rattle.std.proofs.Common.{ℕ, ◌≡◌, ◌==◌, ◌||◌, ◌&&◌, not, nat_lt, refl, sym, ap, ap₂, ◌∙◌, Bool, true, false, cond, Option, Some, None, List, slice_get, slice_index_or, option_and_then, IfSome}
 use Rattle.std.specs.Option.{option_map_or}
 use mathlib.Core.Path.{fun_ext}
 use Rattle.xs_pixel.specs.Channels.{Channels, clear}
-use Rattle.xs_scene.specs.Records.{SceneRecord, ColoursRecord}
-use Rattle.xs_meaning.specs.Agreement.{DropsAlike}
-use Rattle.xs_meaning.specs.Drawings.{colours_of, number_of}
-use Rattle.xs_meaning.specs.Expressions.{Leaf, Tinted, pair_of, blur_of, leaf_by, by_offsets, row_expr}
+use Rattle.xs_scene.specs.declared.level.Kind.{Kind}
+use Rattle.xs_scene.specs.declared.level.Kind.TheVariants.{Colour, Cm32}
+use Rattle.xs_scene.specs.declared.node.Ref.{Ref}
+use Rattle.xs_scene.specs.Records.{SceneRecord, LevelRecord, ColoursRecord}
+use Rattle.xs_meaning.specs.Agreement.{DropsAlike, PalettesAlike}
+use Rattle.xs_meaning.specs.Drawings.{colours_of, level_of, palette_of, no_colours, number_of}
+use Rattle.xs_meaning.specs.Expressions.{Expr, Leaf, Tinted, pair_of, blur_of, leaf_by, by_offsets, row_expr, input_expr}
 use Rattle.xs_meaning.specs.Palettes.{Dropped, deleting, keeping, is_listed, style_at, as_written, same_pixels, pixel_of, keyed, key_at}
 use Rattle.xs_meaning.specs.Points.{Point, plus}
-use Rattle.xs_meaning.specs.Walk.{sheet_at}
-use Rattle.xs_meaning.proofs.Agree.{Agrees, row_walk-agrees}
+use Rattle.xs_meaning.specs.Walk.{sheet_at, whole_row, depth_of}
+use Rattle.xs_meaning.proofs.Agree.{Agrees, row_walk-agrees, walk-agrees, meets-any}
 use Rattle.xs_meaning.proofs.Canonical.{tint_at-same, tint_by-written_same}
-use Rattle.xs_meaning.proofs.ExtentLemmas.{meets-any}
 
 -- from two palettes that are alike at a row, one leaf
 leaf_by-alike :
@@ -83,6 +84,17 @@ agrees_alike s =
         through None same = refl
         through (Some c) same = leaf_by-alike c c d row f g o (λ style. refl) same
 
+pub input_expr-alike :
+    (s : SceneRecord) (f g : Dropped) → DropsAlike s f g
+    → (k : ℕ) (n : Ref) (row : ℕ) (o : Point) → input_expr s k n row f o ≡ input_expr s k n row g o
+input_expr-alike s f g alike k n row o =
+    ap (λ e. e o)
+    (walk-agrees (by_offsets s) (by_offsets s) (λ d e other. e ≡ other) (DropsAlike s) (λ style. Unit {0})
+    (λ q. Unit {0}) (agrees_alike s) 16 (whole_row (by_offsets s) s.sheets) (whole_row (by_offsets s) s.sheets)
+    (row_walk-agrees (by_offsets s) (by_offsets s) (λ d e other. e ≡ other) (DropsAlike s) (λ style. Unit {0})
+    (λ q. Unit {0}) (agrees_alike s) s.sheets (λ j. meets-any (sheet_at s.sheets j)) 16)
+    (sheet_at s.sheets k) (meets-any (sheet_at s.sheets k)) (depth_of (sheet_at s.sheets k)) n row f g alike)
+
 pub row_expr-alike :
     (s : SceneRecord) (f g : Dropped) → DropsAlike s f g
     → (k row : ℕ) (o : Point) → row_expr s k row f o ≡ row_expr s k row g o
@@ -90,3 +102,54 @@ row_expr-alike s f g alike k row o =
     ap (λ e. e o)
     (row_walk-agrees (by_offsets s) (by_offsets s) (λ d e other. e ≡ other) (DropsAlike s) (λ style. Unit {0})
     (λ q. Unit {0}) (agrees_alike s) s.sheets (λ j. meets-any (sheet_at s.sheets j)) 16 k row f g alike)
+
+-- palettes that are alike make the same leaves
+agrees_palettes :
+    (s : SceneRecord) (others : List ColoursRecord) → PalettesAlike s.palettes others
+    → Agrees (by_offsets s) (by_offsets (record s { palettes = others })) (λ d e other. e ≡ other) (λ f g. f ≡ g)
+    (λ style. Unit {0}) (λ q. Unit {0})
+unfolding by_offsets colours_of
+agrees_palettes s others alike =
+    record {
+      nothing = λ d. refl;
+      drawing = λ d level index row f g same.
+          fun_ext
+          (λ o.
+          let number = number_of s.levels level index in
+          ap (λ g. leaf_of s.palettes number row f o) same ∙ same_leaf number row f o ∙ ap (λ g. leaf_of others number row g o) same);
+      moved = λ d q e other place same. ap (λ e o. e (plus o q)) same;
+      card = λ d style bytes. refl;
+      pair = λ d op x x' y y' first second. ap₂ (λ a b o. pair_of op (a o) (b o)) first second;
+      blur = λ d n e other same. ap (λ a o. blur_of n (a o)) same;
+      keep = λ styles f g same. ap (keeping styles) same;
+      delete = λ styles f g same. ap (deleting styles) same;
+    }
+  where
+    leaf_of : List ColoursRecord → ℕ → ℕ → Dropped → Point → Expr
+    leaf_of palettes d row f o =
+        leaf_by (option_and_then (λ l. palette_of palettes l.kind) (level_of s.levels d)) d row f o
+
+    same_leaf : (d row : ℕ) (f : Dropped) (o : Point) → leaf_of s.palettes d row f o ≡ leaf_of others d row f o
+    same_leaf d row f o = by_level (level_of s.levels d)
+      where
+        by_kind : (kind : Kind) → leaf_by (palette_of s.palettes kind) d row f o ≡ leaf_by (palette_of others kind) d row f o
+        by_kind Colour = refl
+        by_kind (Cm32 palette) =
+            leaf_by-alike (slice_index_or s.palettes palette no_colours) (slice_index_or others palette no_colours) d row f f o
+            (alike palette).written ((alike palette).keyed row f)
+
+        by_level : (level : Option LevelRecord)
+            → leaf_by (option_and_then (λ l. palette_of s.palettes l.kind) level) d row f o
+            ≡ leaf_by (option_and_then (λ l. palette_of others l.kind) level) d row f o
+        by_level None = refl
+        by_level (Some l) = by_kind l.kind
+
+pub row_expr-palettes_alike :
+    (s : SceneRecord) (others : List ColoursRecord) → PalettesAlike s.palettes others
+    → (k row : ℕ) (f : Dropped) (o : Point)
+    → row_expr s k row f o ≡ row_expr (record s { palettes = others }) k row f o
+row_expr-palettes_alike s others alike k row f o =
+    ap (λ e. e o)
+    (row_walk-agrees (by_offsets s) (by_offsets (record s { palettes = others })) (λ d e other. e ≡ other)
+    (λ f g. f ≡ g) (λ style. Unit {0}) (λ q. Unit {0}) (agrees_palettes s others alike) s.sheets
+    (λ j. meets-any (sheet_at s.sheets j)) 16 k row f f refl)
