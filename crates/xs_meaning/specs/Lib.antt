@@ -14,3 +14,4 @@ pub mod Bounds
 pub mod Ends
 pub mod Tables
 pub mod States
+pub mod Samples

@@ -4,6 +4,7 @@
 //! plain words.
 #![tactic(auto)]
 
+pub mod examples;
 pub mod expressions;
 pub mod filters;
 pub mod rules;
