@@ -27,7 +27,7 @@ pub record IsSheetInRange (k : SheetRecord) : Type 0 where
   pub pegs : All (λ peg. All IsPegKey peg.keys) k.pegs
   pub nodes : All IsCardInRange k.nodes
 
--- the scene's numbers are in the ranges of its types
+-- the numbers that colours and places are made of are in the ranges of the scene's types
 pub record IsSceneInRange (s : SceneRecord) : Type 0 where
   pub palettes : All IsColoursInRange s.palettes
   pub sheets : All IsSheetInRange s.sheets
