@@ -6,13 +6,14 @@ use Rattle.xs_scene.specs.Records.{SceneRecord, ColoursRecord}
 use Rattle.xs_meaning.specs.Bounds.{IsWithin, LeavesWithin}
 use Rattle.xs_meaning.specs.Drawings.{colours_of, number_of}
 use Rattle.xs_meaning.specs.Expressions.{Expr, Clear, Leaf, Tinted, Card, Pair, Blur, is_clear, Staying, Both, First, Second, Neither, staying, pair_staying, blur_of, leaf_by, by_offsets, row_expr, root_of}
-use Rattle.xs_meaning.specs.InRange.{IsSheetInRange, IsSceneInRange}
+use Rattle.xs_scene.specs.InRange.{IsInRange}
 use Rattle.xs_meaning.specs.Palettes.{Dropped, none_dropped, keeping, deleting, is_as_written, is_clear_pixel, pixel_of, tint_at}
 use Rattle.xs_meaning.specs.Points.{Point, plus, opposite}
 use Rattle.xs_meaning.specs.Rows.{camera_at}
-use Rattle.xs_meaning.specs.Walk.{sheet_at, no_sheet, column_at}
+use Rattle.xs_meaning.specs.Walk.{sheet_at, column_at}
 use Rattle.xs_meaning.proofs.Agree.{Agrees, Meets, row_walk-agrees}
-use Rattle.xs_meaning.proofs.Lists.{by_test, All-slice_index_or}
+use Rattle.xs_meaning.proofs.Lists.{by_test}
+use Rattle.xs_meaning.proofs.SheetRanges.{sheet_at-in_range}
 use Rattle.xs_meaning.proofs.Offsets.{plus-within, IsWithin-more, place_of-within}
 
 -- an expression below d nested sheets: under an offset within b its drawings are as far away as d
@@ -71,22 +72,17 @@ agrees s =
       delete = λ styles f g same. ap (deleting styles) same;
     }
 
-in_range : (s : SceneRecord) → IsSceneInRange s → (k : ℕ) → IsSheetInRange (sheet_at s.sheets k)
-in_range s range k =
-    All-slice_index_or IsSheetInRange s.sheets k no_sheet
-    (record { pegs = λ k d lt. absurd (omega arith); nodes = λ k d lt. absurd (omega arith) }) range.sheets
-
-meets : (s : SceneRecord) → IsSceneInRange s → (k : ℕ) → Meets (λ style. Unit {0}) (IsWithin (2 ^ 22)) (sheet_at s.sheets k)
+meets : (s : SceneRecord) → IsInRange s → (k : ℕ) → Meets (λ style. Unit {0}) (IsWithin (2 ^ 22)) (sheet_at s.sheets k)
 meets s range k =
     record {
       cards = λ n style is. tt;
       places = λ c row.
-          place_of-within (sheet_at s.sheets k) (in_range s range k).pegs (column_at (sheet_at s.sheets k) c).peg row;
+          place_of-within (sheet_at s.sheets k) (sheet_at-in_range s range k).pegs (column_at (sheet_at s.sheets k) c).peg row;
     }
 
 -- 16 nested sheets of places, and an offset
 pub LeavesWithin-row_expr :
-    (s : SceneRecord) → IsSceneInRange s → (k row : ℕ) (f : Dropped) (b : ℕ) (o : Point) → IsWithin b o
+    (s : SceneRecord) → IsInRange s → (k row : ℕ) (f : Dropped) (b : ℕ) (o : Point) → IsWithin b o
     → LeavesWithin (b + 2 ^ 26) (row_expr s k row f o)
 LeavesWithin-row_expr s range k row f =
     row_walk-agrees (by_offsets s) (by_offsets s) (λ d e same. IsBounded d e) (λ f g. f ≡ g)
@@ -103,8 +99,8 @@ opposite-within n p here =
 
 -- the camera adds one place
 pub LeavesWithin-root_of :
-    (s : SceneRecord) → IsSceneInRange s → (row : ℕ) → LeavesWithin (2 ^ 22 + 2 ^ 26) (root_of s row)
+    (s : SceneRecord) → IsInRange s → (row : ℕ) → LeavesWithin (2 ^ 22 + 2 ^ 26) (root_of s row)
 LeavesWithin-root_of s range row =
     LeavesWithin-row_expr s range 0 row none_dropped (2 ^ 22) (opposite (camera_at s row))
     (opposite-within (2 ^ 22) (camera_at s row)
-    (place_of-within (sheet_at s.sheets 0) (in_range s range 0).pegs s.camera.peg row))
+    (place_of-within (sheet_at s.sheets 0) (sheet_at-in_range s range 0).pegs s.camera.peg row))

@@ -1,6 +1,7 @@
 pub mod Agree
 pub mod Lists
 pub mod Tints
+pub mod SheetRanges
 pub mod KeyLemmas
 pub mod Blurs
 pub mod DrawingPixels

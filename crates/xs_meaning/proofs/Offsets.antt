@@ -5,6 +5,7 @@ use Rattle.std.proofs.Math.Nat.{zero-div, div-le_of_le-mul, div-lt_iff_lt-mul, m
 use Rattle.std.proofs.lemmas.Int.{ints}
 use Rattle.std.proofs.lemmas.List.Elements.{All-filter, filter_passes}
 use Rattle.xs_scene.specs.Records.{PegKeyRecord, SheetRecord}
+use Rattle.xs_scene.specs.InRange.{PegInRange}
 use Rattle.xs_scene.specs.Ranges.{IsOffset, IsPegKey}
 use Rattle.xs_meaning.specs.Bounds.{IsWithin}
 use Rattle.xs_meaning.specs.Places.{key_in_force, key_after, on_line, offset_by, own_offset, place_up, place_of, peg_at, no_peg}
@@ -123,7 +124,7 @@ IsWithin-more m n p le here =
     }
 
 place_up-within :
-    (k : SheetRecord) → All (λ peg. All IsPegKey peg.keys) k.pegs
+    (k : SheetRecord) → All PegInRange k.pegs
     → (n : ℕ) (peg : Option ℕ) (row : ℕ) → IsWithin (n * 65536) (place_up n k peg row)
 unfolding place_up
 place_up-within k all zero peg row = origin-within (0 * 65536)
@@ -133,11 +134,12 @@ place_up-within k all (suc n) (Some i) row =
     (plus (own_offset (peg_at k i).keys row) (place_up n k (peg_at k i).parent row)) (omega arith)
     (plus-within 65536 (n * 65536) (own_offset (peg_at k i).keys row) (place_up n k (peg_at k i).parent row)
     (own_offset-within (peg_at k i).keys row
-    (All-slice_index_or (λ peg. All IsPegKey peg.keys) k.pegs i no_peg (λ j d lt. absurd (omega arith)) all))
+    (All-slice_index_or PegInRange k.pegs i no_peg
+    (record { parent = tt; keys = λ j d lt. absurd (omega arith) }) all).keys)
     (place_up-within k all n (peg_at k i).parent row))
 
 -- the place of a peg is at most 64 pegs of 65,536 away
 pub place_of-within :
-    (k : SheetRecord) → All (λ peg. All IsPegKey peg.keys) k.pegs
+    (k : SheetRecord) → All PegInRange k.pegs
     → (peg : Option ℕ) (row : ℕ) → IsWithin (2 ^ 22) (place_of k peg row)
 place_of-within k all peg row = place_up-within k all 64 peg row

@@ -7,7 +7,8 @@ use Rattle.xs_scene.specs.Records.{SceneRecord}
 use Rattle.xs_meaning.specs.Agreement.{AgreeOn}
 use Rattle.xs_meaning.specs.Drawings.{Pictures, drawing_pixel, written_colouring}
 use Rattle.xs_meaning.specs.Expressions.{Expr, Clear, Leaf, Tinted, Card, Pair, Blur, drawings_of, value_of, root_of}
-use Rattle.xs_meaning.specs.InRange.{IsSceneInRange, ArePixels}
+use Rattle.xs_scene.specs.InRange.{IsInRange}
+use Rattle.xs_meaning.specs.Drawings.{ArePixels}
 use Rattle.xs_meaning.specs.Palettes.{tint_style}
 use Rattle.xs_meaning.specs.Points.{Point, minus}
 use Rattle.xs_meaning.specs.Rows.{blurred, frame_pixel}
@@ -37,7 +38,7 @@ value-own_drawings s pictures others (Blur n a) agree p =
 
 -- a drawing that a row shows outside its expression changes no pixel of the frame
 pub frame_pixel-own_drawings :
-    (s : SceneRecord) (pictures others : Pictures) → IsSceneInRange s → ArePixels pictures → ArePixels others
+    (s : SceneRecord) (pictures others : Pictures) → IsInRange s → ArePixels pictures → ArePixels others
     → (row : ℕ) → AgreeOn pictures others (drawings_of (root_of s row))
     → (p : Point) → frame_pixel s pictures row p ≡ frame_pixel s others row p
 frame_pixel-own_drawings s pictures others range pixels other_pixels row agree p =

@@ -8,15 +8,17 @@ use Rattle.xs_scene.specs.declared.node.Ref.{Ref}
 use Rattle.xs_scene.specs.Records.{SceneRecord}
 use Rattle.xs_meaning.specs.Drawings.{Pictures, number_of}
 use Rattle.xs_meaning.specs.Expressions.{Expr, by_offsets, blur_of, row_expr, input_expr, root_of, value_of}
-use Rattle.xs_meaning.specs.InRange.{IsStyleInRange, IsSheetInRange, IsCardInRange, IsSceneInRange, ArePixels}
+use Rattle.xs_scene.specs.InRange.{IsStyle, HasCardInRange, IsInRange}
+use Rattle.xs_meaning.specs.Drawings.{ArePixels}
 use Rattle.xs_meaning.specs.Palettes.{Dropped, none_dropped, pixel_of, keeping, deleting}
 use Rattle.xs_meaning.specs.Points.{Point, point, plus, minus, opposite}
 use Rattle.xs_meaning.specs.Rows.{Image, by_points, blurred, row_under, row_of, value_under, camera_at}
-use Rattle.xs_meaning.specs.Walk.{sheet_at, no_sheet, whole_row, depth_of}
+use Rattle.xs_meaning.specs.Walk.{sheet_at, whole_row, depth_of}
 use Rattle.xs_meaning.proofs.Agree.{Agrees, Meets, row_walk-agrees, walk-agrees}
 use Rattle.xs_meaning.proofs.Blurs.{blurred-moved, IsPixel-blurred}
 use Rattle.xs_meaning.proofs.DrawingPixels.{IsPixel-clear, IsPixel-pixel_of, IsPixel-drawing_at}
-use Rattle.xs_meaning.proofs.Lists.{All-slice_get, All-slice_index_or}
+use Rattle.xs_meaning.proofs.Lists.{All-slice_get}
+use Rattle.xs_meaning.proofs.SheetRanges.{sheet_at-in_range}
 use Rattle.xs_meaning.proofs.Vanishing.{value-pair_of, value-blur_of, value-card_of, value-leaf_by}
 
 -- an image and an expression by offset have the same value, which is a pixel
@@ -50,9 +52,9 @@ blur-same s pictures n image e at =
     }
 
 agrees :
-    (s : SceneRecord) (pictures : Pictures) → IsSceneInRange s → ArePixels pictures
+    (s : SceneRecord) (pictures : Pictures) → IsInRange s → ArePixels pictures
     → Agrees (by_points s pictures) (by_offsets s) (λ d image e. SameValue s pictures image e)
-    (λ f g. f ≡ g) IsStyleInRange (λ q. Unit {0})
+    (λ f g. f ≡ g) IsStyle (λ q. Unit {0})
 unfolding by_points by_offsets value_of
 agrees s pictures range pixels =
     record {
@@ -89,39 +91,34 @@ agrees s pictures range pixels =
       delete = λ styles f g same. ap (deleting styles) same;
     }
 
-pub meets-in_range : (s : SceneRecord) → IsSceneInRange s → (k : ℕ) → Meets IsStyleInRange (λ q. Unit {0}) (sheet_at s.sheets k)
+pub meets-in_range : (s : SceneRecord) → IsInRange s → (k : ℕ) → Meets IsStyle (λ q. Unit {0}) (sheet_at s.sheets k)
 meets-in_range s range k =
     record {
-      cards = λ n style is. subst (λ node. IfSome node IsCardInRange) is (All-slice_get IsCardInRange (sheet_at s.sheets k).nodes n sheet.nodes);
+      cards = λ n style is. subst (λ node. IfSome node HasCardInRange) is (All-slice_get HasCardInRange (sheet_at s.sheets k).nodes n (sheet_at-in_range s range k).cards);
       places = λ c row. tt;
     }
-  where
-    sheet : IsSheetInRange (sheet_at s.sheets k)
-    sheet =
-        All-slice_index_or IsSheetInRange s.sheets k no_sheet
-        (record { pegs = λ k d lt. absurd (omega arith); nodes = λ k d lt. absurd (omega arith) }) range.sheets
 
 -- at each row of each sheet, under dropped styles and any offset
 pub value-row_expr :
-    (s : SceneRecord) (pictures : Pictures) → IsSceneInRange s → ArePixels pictures
+    (s : SceneRecord) (pictures : Pictures) → IsInRange s → ArePixels pictures
     → (k row : ℕ) (f : Dropped) (o p : Point)
     → value_of s pictures (row_expr s k row f o) p ≡ row_under s pictures k row f (minus p o)
 value-row_expr s pictures range pixels k row f o p =
     (row_walk-agrees (by_points s pictures) (by_offsets s) (λ d image e. SameValue s pictures image e)
-    (λ f g. f ≡ g) IsStyleInRange (λ q. Unit {0}) (agrees s pictures range pixels)
+    (λ f g. f ≡ g) IsStyle (λ q. Unit {0}) (agrees s pictures range pixels)
     s.sheets (meets-in_range s range) 16 k row f f refl).same o p
 
 -- at each column and node of each sheet
 pub value-input_expr :
-    (s : SceneRecord) (pictures : Pictures) → IsSceneInRange s → ArePixels pictures
+    (s : SceneRecord) (pictures : Pictures) → IsInRange s → ArePixels pictures
     → (k : ℕ) (n : Ref) (row : ℕ) (f : Dropped) (o p : Point)
     → value_of s pictures (input_expr s k n row f o) p ≡ value_under s pictures k n row f (minus p o)
 value-input_expr s pictures range pixels k n row f o p =
     (walk-agrees (by_points s pictures) (by_offsets s) (λ d image e. SameValue s pictures image e)
-    (λ f g. f ≡ g) IsStyleInRange (λ q. Unit {0}) (agrees s pictures range pixels)
+    (λ f g. f ≡ g) IsStyle (λ q. Unit {0}) (agrees s pictures range pixels)
     16 (whole_row (by_points s pictures) s.sheets) (whole_row (by_offsets s) s.sheets)
     (row_walk-agrees (by_points s pictures) (by_offsets s) (λ d image e. SameValue s pictures image e)
-    (λ f g. f ≡ g) IsStyleInRange (λ q. Unit {0}) (agrees s pictures range pixels)
+    (λ f g. f ≡ g) IsStyle (λ q. Unit {0}) (agrees s pictures range pixels)
     s.sheets (meets-in_range s range) 16)
     (sheet_at s.sheets k) (meets-in_range s range k) (depth_of (sheet_at s.sheets k)) n row f f refl).same o p
 
@@ -130,7 +127,7 @@ minus-opposite p c = ap₂ point (omega (arith, ints)) (omega (arith, ints))
 
 -- the root of a row has the pixels of the row at the points moved by the camera
 pub value-root_of :
-    (s : SceneRecord) (pictures : Pictures) → IsSceneInRange s → ArePixels pictures
+    (s : SceneRecord) (pictures : Pictures) → IsInRange s → ArePixels pictures
     → (row : ℕ) (p : Point)
     → value_of s pictures (root_of s row) p ≡ row_of s pictures 0 row (plus p (camera_at s row))
 value-root_of s pictures range pixels row p =
@@ -139,9 +136,9 @@ value-root_of s pictures range pixels row p =
 
 -- each pixel of a row is a pixel
 pub IsPixel-row_under :
-    (s : SceneRecord) (pictures : Pictures) → IsSceneInRange s → ArePixels pictures
+    (s : SceneRecord) (pictures : Pictures) → IsInRange s → ArePixels pictures
     → (k row : ℕ) (f : Dropped) (p : Point) → IsPixel (row_under s pictures k row f p)
 IsPixel-row_under s pictures range pixels k row f p =
     (row_walk-agrees (by_points s pictures) (by_offsets s) (λ d image e. SameValue s pictures image e)
-    (λ f g. f ≡ g) IsStyleInRange (λ q. Unit {0}) (agrees s pictures range pixels)
+    (λ f g. f ≡ g) IsStyle (λ q. Unit {0}) (agrees s pictures range pixels)
     s.sheets (meets-in_range s range) 16 k row f f refl).pixel p

@@ -1,5 +1,5 @@
-use Rattle.std.specs.Prelude.{ℕ, ◌+◌, ◌-◌, nat_lt, Option, Some, None, List, [], ◌∷◌, map, take, length, sum_by, slice_index_or, option_map, option_and_then, if◌then◌else◌}
-use Rattle.xs_pixel.specs.Channels.{Channels, clear}
+use Rattle.std.specs.Prelude.{ℕ, ◌+◌, ◌-◌, nat_lt, Option, Some, None, List, [], ◌∷◌, map, take, length, sum_by, slice_index_or, option_map, option_and_then, All, IfSome, if◌then◌else◌}
+use Rattle.xs_pixel.specs.Channels.{Channels, IsPixel, clear}
 use Rattle.xs_pixel.specs.Picture.{Picture, Content, Colours, Words, at_point}
 use Rattle.xs_scene.specs.declared.level.Kind.{Kind}
 use Rattle.xs_scene.specs.declared.level.Kind.TheVariants.{Colour, Cm32}
@@ -57,3 +57,11 @@ written_colouring s d = option_map as_written (colours_of s d)
 
 abbrev pub colouring_at : SceneRecord → ℕ → ℕ → Dropped → Option Colouring
 colouring_at s d row f = option_map (λ c. style_at c row f) (colours_of s d)
+
+abbrev pub HoldsPixels : Content → Type 0
+HoldsPixels (Colours pixels) = All IsPixel pixels
+HoldsPixels (Words words) = Unit {0}
+
+-- the pixels of colour files are pixels
+abbrev pub ArePixels : Pictures → Type 0
+ArePixels pictures = (d : ℕ) → IfSome (pictures d) (λ q. HoldsPixels q.content)

@@ -4,7 +4,6 @@ pub mod Palettes
 pub mod Drawings
 pub mod Cells
 pub mod Places
-pub mod InRange
 pub mod Walk
 pub mod Rows
 pub mod Expressions

@@ -22,11 +22,11 @@ none_dropped style = false
 abbrev pub is_listed : List ℕ → ℕ → Bool
 is_listed styles style = list_any (λ listed. listed == style) styles
 
--- besides, each listed style is dropped
+-- the dropped styles, and each listed one besides
 abbrev pub deleting : List ℕ → Dropped → Dropped
 deleting styles f style = f style || is_listed styles style
 
--- besides, each style below 4096 that is not listed is dropped
+-- the dropped styles, and besides each style below 4096 that is not listed
 abbrev pub keeping : List ℕ → Dropped → Dropped
 keeping styles f style = f style || (nat_lt style 4096 && not (is_listed styles style))
 

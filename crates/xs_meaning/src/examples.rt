@@ -85,16 +85,20 @@ pub fn terminals()
     ensures right_above_left { root_of (two_columns None) 1 ≡ Pair op.Over (Leaf 1 origin) (Leaf 2 origin) }
     ensures top_first { drawings_of (root_of (two_columns None) 1) ≡ 1 ∷ 2 ∷ [] }
     ensures pixel { frame_pixel (two_columns None) three_pixels 1 origin ≡ channels 128 0 127 255 }
-    ensures other_order { root_of (two_columns (Some (to.Column 1 ∷ to.Column 0 ∷ []))) 1 ≡ Pair op.Over (Leaf 2 origin) (Leaf 1 origin) }
-    ensures other_pixel { frame_pixel (two_columns (Some (to.Column 1 ∷ to.Column 0 ∷ []))) three_pixels 1 origin ≡ blue }
+    ensures other_order { root_of (two_columns (Some (to.Column 1 ∷ to.Column 0 ∷ []))) 1
+        ≡ Pair op.Over (Leaf 2 origin) (Leaf 1 origin) }
+    ensures other_pixel { frame_pixel (two_columns (Some (to.Column 1 ∷ to.Column 0 ∷ []))) three_pixels 1 origin
+        ≡ blue }
     ensures off { root_of (one_off None) 1 ≡ Leaf 2 origin }
-    ensures off_but_listed { root_of (one_off (Some (to.Column 0 ∷ to.Column 1 ∷ []))) 1 ≡ Pair op.Over (Leaf 1 origin) (Leaf 2 origin) }
+    ensures off_but_listed { root_of (one_off (Some (to.Column 0 ∷ to.Column 1 ∷ []))) 1
+        ≡ Pair op.Over (Leaf 1 origin) (Leaf 2 origin) }
     ensures none { root_of (one_off (Some [])) 1 ≡ Clear }
 {}
 
 /// Pairs and cards, and what vanishes where an input is clear.
 pub fn pairs_and_cards()
-    ensures product { frame_pixel (with_empty (node.Pair op.Mult (to.Column 0) (to.Column 0))) three_pixels 1 origin ≡ channels 0 2 4 255 }
+    ensures product { frame_pixel (with_empty (node.Pair op.Mult (to.Column 0) (to.Column 0))) three_pixels 1 origin
+        ≡ channels 0 2 4 255 }
     ensures over_nothing { root_of (with_empty (node.Pair op.Over (to.Column 0) (to.Column 1))) 1 ≡ Leaf 0 origin }
     ensures sub_nothing { root_of (with_empty (node.Pair op.Sub (to.Column 1) (to.Column 0))) 1 ≡ Leaf 0 origin }
     ensures sub_from_nothing { root_of (with_empty (node.Pair op.Sub (to.Column 0) (to.Column 1))) 1 ≡ Clear }
@@ -108,21 +112,29 @@ pub fn pairs_and_cards()
 /// A blur of radius 1 spreads a pixel over nine; reaches add up.
 pub fn blurs_of_pixels()
     ensures root { root_of (with_empty (node.Blur (to.Column 0) 1)) 1 ≡ Blur 1 (Leaf 0 origin) }
-    ensures middle { frame_pixel (with_empty (node.Blur (to.Column 0) 1)) three_pixels 1 origin ≡ channels 1 2 3 28 }
-    ensures corner { frame_pixel (with_empty (node.Blur (to.Column 0) 1)) three_pixels 1 (point (negsuc 0) (pos 1)) ≡ channels 1 2 3 28 }
-    ensures beyond { frame_pixel (with_empty (node.Blur (to.Column 0) 1)) three_pixels 1 (point (pos 2) (pos 0)) ≡ clear }
+    ensures middle { frame_pixel (with_empty (node.Blur (to.Column 0) 1)) three_pixels 1 origin
+        ≡ channels 1 2 3 28 }
+    ensures corner { frame_pixel (with_empty (node.Blur (to.Column 0) 1)) three_pixels 1 (point (negsuc 0) (pos 1))
+        ≡ channels 1 2 3 28 }
+    ensures beyond { frame_pixel (with_empty (node.Blur (to.Column 0) 1)) three_pixels 1 (point (pos 2) (pos 0))
+        ≡ clear }
     ensures of_nothing { root_of (with_empty (node.Blur (to.Column 1) 16)) 1 ≡ Clear }
     ensures reach { reach_of (root_of (blurs 4 (16 ∷ 16 ∷ 16 ∷ 16 ∷ [])) 1) ≡ 65 }
 {}
 
 /// A word is coloured by the palette of its level; filters make styles clear, also in nested sheets.
 pub fn palette_filters()
-    ensures unfiltered { frame_pixel (painted [] (columns_alone held ∷ [])) mixed_word 1 origin ≡ channels 155 0 100 255 }
+    ensures unfiltered { frame_pixel (painted [] (columns_alone held ∷ [])) mixed_word 1 origin
+        ≡ channels 155 0 100 255 }
     ensures style_zero { frame_pixel (painted [] (columns_alone held ∷ [])) no_ink 1 origin ≡ clear }
-    ensures deleted { frame_pixel (painted [] (through (node.Delete (to.Column 0) (1 ∷ [])) ∷ [])) mixed_word 1 origin ≡ channels 0 0 100 100 }
-    ensures kept { frame_pixel (painted [] (through (node.Keep (to.Column 0) (1 ∷ [])) ∷ [])) mixed_word 1 origin ≡ channels 155 0 0 155 }
-    ensures kept_inside { frame_pixel (filtered_nested (node.Keep (to.Column 0) (1 ∷ [])) []) mixed_word 1 origin ≡ channels 155 0 0 155 }
-    ensures tinted { root_of (painted [] (through (node.Delete (to.Column 0) (2 ∷ [])) ∷ [])) 1 ≡ Tinted 0 origin (clear ∷ channels 255 0 0 255 ∷ []) }
+    ensures deleted { frame_pixel (painted [] (through (node.Delete (to.Column 0) (1 ∷ [])) ∷ [])) mixed_word 1 origin
+        ≡ channels 0 0 100 100 }
+    ensures kept { frame_pixel (painted [] (through (node.Keep (to.Column 0) (1 ∷ [])) ∷ [])) mixed_word 1 origin
+        ≡ channels 155 0 0 155 }
+    ensures kept_inside { frame_pixel (filtered_nested (node.Keep (to.Column 0) (1 ∷ [])) []) mixed_word 1 origin
+        ≡ channels 155 0 0 155 }
+    ensures tinted { root_of (painted [] (through (node.Delete (to.Column 0) (2 ∷ [])) ∷ [])) 1
+        ≡ Tinted 0 origin (clear ∷ channels 255 0 0 255 ∷ []) }
     ensures unused { root_of (painted [] (through (node.Delete (to.Column 0) (7 ∷ [])) ∷ [])) 1 ≡ Leaf 0 origin }
     ensures second_level { root_of two_levels 1 ≡ Leaf 2 origin }
     ensures second_level_pixel { frame_pixel two_levels mixed_kinds 1 origin ≡ channels 155 0 100 255 }
@@ -130,12 +142,17 @@ pub fn palette_filters()
 
 /// A palette key sets its style from its row on: the row of the sheet in which the column stands.
 pub fn palette_keys()
-    ensures before { frame_pixel (painted green_at_two (columns_alone held ∷ [])) mixed_word 1 origin ≡ channels 155 0 100 255 }
-    ensures from_its_row { frame_pixel (painted green_at_two (columns_alone held ∷ [])) mixed_word 2 origin ≡ channels 0 155 100 255 }
+    ensures before { frame_pixel (painted green_at_two (columns_alone held ∷ [])) mixed_word 1 origin
+        ≡ channels 155 0 100 255 }
+    ensures from_its_row { frame_pixel (painted green_at_two (columns_alone held ∷ [])) mixed_word 2 origin
+        ≡ channels 0 155 100 255 }
     ensures leaf { root_of (painted green_at_two (columns_alone held ∷ [])) 1 ≡ Leaf 0 origin }
-    ensures tinted { root_of (painted green_at_two (columns_alone held ∷ [])) 2 ≡ Tinted 0 origin (clear ∷ channels 0 255 0 255 ∷ blue ∷ []) }
-    ensures inner_row { frame_pixel (filtered_nested (node.Delete (to.Column 0) (2 ∷ [])) green_at_two) mixed_word 1 origin ≡ channels 0 155 0 155 }
-    ensures shuffled_row { frame_pixel (painted green_at_two (through (node.Shuffle (to.Column 0) (2 ∷ [])) ∷ [])) mixed_word 1 origin ≡ channels 0 155 100 255 }
+    ensures tinted { root_of (painted green_at_two (columns_alone held ∷ [])) 2
+        ≡ Tinted 0 origin (clear ∷ channels 0 255 0 255 ∷ blue ∷ []) }
+    ensures inner_row { frame_pixel (filtered_nested (node.Delete (to.Column 0) (2 ∷ [])) green_at_two) mixed_word 1 origin
+        ≡ channels 0 155 0 155 }
+    ensures shuffled_row { frame_pixel (painted green_at_two (through (node.Shuffle (to.Column 0) (2 ∷ [])) ∷ [])) mixed_word 1 origin
+        ≡ channels 0 155 100 255 }
 {}
 
 /// A scene with every kind of node, a nested sheet and a peg with a parent has what checking finds.

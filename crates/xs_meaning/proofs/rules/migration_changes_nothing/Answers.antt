@@ -8,4 +8,4 @@ use Rattle.xs_meaning.proofs.rules.migration_changes_nothing.Goals as goal
 pub returns : goal.returns
 unfolding by_points by_offsets colours_of
 returns c =
-    record { cameras = λ s row. refl; rows = λ s pictures k row p. refl; roots = λ s row. refl }
+    record { places = λ s k peg row. refl; cameras = λ s row. refl; rows = λ s pictures k row p. refl; roots = λ s row. refl }
