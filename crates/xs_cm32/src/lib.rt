@@ -3,4 +3,4 @@
 
 pub mod word;
 
-pub use word::{Cm32, colour, word_layout};
+pub use word::{Cm32, colour, pure_tones, word_layout};
