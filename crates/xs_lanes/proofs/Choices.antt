@@ -1,5 +1,5 @@
 -- What the lanes of a comparison choose: the lesser, the greater, sums and differences that stop at a bound.
-use Rattle.std.proofs.Common.{◌≡◌, ℕ, ◌+◌, ◌-◌, ◌%◌, ◌^◌, ◌≤◌, Bool, not, cond, eqb, ltb, min, max, List, [], ◌∷◌, map, refl, ap, ◌∙◌, arith}
+use Rattle.std.proofs.Common.{◌≡◌, ℕ, ◌+◌, ◌-◌, ◌%◌, ◌^◌, ◌≤◌, Bool, not, cond, eqb, ltb, min, max, List, [], ◌∷◌, length, map, refl, ap, ◌∙◌, arith}
 use Rattle.std.specs.Simd.Lanes.{Each1, zip2}
 use lib.Lanes.{sel_l, mask_l}
 use mir.Syntax.{w8}
@@ -46,3 +46,14 @@ none_differs v [] none = tt
 none_differs v (x ∷ xs) none =
     let bit : cond {A = ℕ} (not (eqb x v)) 1 0 ≡ 0 = omega (arith, none) in
     (grind (arith, nat_tests), none_differs v xs (omega (arith, none)))
+
+-- no bit for a lane in which two blocks differ
+pub none_differ : (xs ys : List ℕ) → length xs ≡ length ys → mask_l (zip2 (λ x y. not (eqb x y)) xs ys) ≡ 0 → xs ≡ ys
+none_differ [] [] same none = refl
+none_differ [] (y ∷ ys) same none = absurd (omega arith)
+none_differ (x ∷ xs) [] same none = absurd (omega arith)
+none_differ (x ∷ xs) (y ∷ ys) same none =
+    let bit : cond {A = ℕ} (not (eqb x y)) 1 0 ≡ 0 = omega (arith, none) in
+    let one : x ≡ y = grind (arith, nat_tests) in
+    let later = none_differ xs ys (omega arith) (omega (arith, none)) in
+    cc
