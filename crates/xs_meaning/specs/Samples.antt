@@ -45,6 +45,10 @@ mixed_word d = slice_get (one_word 0x00100264 ∷ []) d
 abbrev pub no_ink : Pictures
 no_ink d = slice_get (one_word 0x00000200 ∷ []) d
 
+-- drawing 0 has one word of ink 5, which no palette here has
+abbrev pub lacking_ink : Pictures
+lacking_ink d = slice_get (one_word 0x00500200 ∷ []) d
+
 -- drawing 0 has two pixels, the left one at (4, 7)
 abbrev pub wide : Pictures
 wide d =
@@ -191,7 +195,11 @@ two_columns out = scene_of (sheet [] (column (shows 1 1 2 ∷ []) ∷ column (sh
 abbrev pub one_off : Option (List Ref) → SceneRecord
 one_off out = scene_of (sheet [] (column (shows 1 1 2 ∷ []) ∷ off_column (shows 1 1 1 ∷ []) ∷ []) [] out)
 
--- a column that shows a drawing, one that shows nothing, and one node that is all that is rendered
+-- a column that shows a drawing, and right of it one that shows nothing
+abbrev pub beside_empty : SceneRecord
+beside_empty = scene_of (columns_alone (column (shows 1 1 0 ∷ []) ∷ column [] ∷ []))
+
+-- the same columns, and one node that is all that is rendered
 abbrev pub with_empty : Node → SceneRecord
 with_empty node =
     scene_of (sheet [] (column (shows 1 1 0 ∷ []) ∷ column [] ∷ []) (node ∷ []) (Some (ToNode 0 ∷ [])))

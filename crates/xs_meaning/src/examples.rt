@@ -12,7 +12,7 @@ ghost use Rattle.xs_meaning.specs.Expressions.{Clear, Leaf, Tinted, Pair, Card, 
 ghost use Rattle.xs_meaning.specs.Places.{place_of};
 ghost use Rattle.xs_meaning.specs.Points.{Point, point, origin};
 ghost use Rattle.xs_meaning.specs.Rows.{frame_pixel};
-ghost use Rattle.xs_meaning.specs.Samples.{dark, half_red, blue, three_pixels, mixed_word, no_ink, wide, mixed_kinds, columns_alone, held, held_twice, nested, nested_back, shuffled, pegs, filmed, two_columns, one_off, with_empty, blurs, filtered_nested, painted, through, green_at_two, two_levels, style, every_kind};
+ghost use Rattle.xs_meaning.specs.Samples.{dark, half_red, blue, three_pixels, mixed_word, no_ink, lacking_ink, wide, mixed_kinds, columns_alone, held, held_twice, nested, nested_back, shuffled, pegs, filmed, two_columns, one_off, beside_empty, with_empty, blurs, filtered_nested, painted, through, green_at_two, two_levels, style, every_kind};
 
 /// A drawing is held over the rows of its exposure, and a row without an exposure shows nothing.
 pub fn holds_and_gaps()
@@ -89,6 +89,7 @@ pub fn terminals()
         ≡ Pair op.Over (Leaf 2 origin) (Leaf 1 origin) }
     ensures other_pixel { frame_pixel (two_columns (Some (to.Column 1 ∷ to.Column 0 ∷ []))) three_pixels 1 origin
         ≡ blue }
+    ensures nothing_above { root_of beside_empty 1 ≡ Leaf 0 origin }
     ensures off { root_of (one_off None) 1 ≡ Leaf 2 origin }
     ensures off_but_listed { root_of (one_off (Some (to.Column 0 ∷ to.Column 1 ∷ []))) 1
         ≡ Pair op.Over (Leaf 1 origin) (Leaf 2 origin) }
@@ -127,6 +128,7 @@ pub fn palette_filters()
     ensures unfiltered { frame_pixel (painted [] (columns_alone held ∷ [])) mixed_word 1 origin
         ≡ channels 155 0 100 255 }
     ensures style_zero { frame_pixel (painted [] (columns_alone held ∷ [])) no_ink 1 origin ≡ clear }
+    ensures lacking_style { frame_pixel (painted [] (columns_alone held ∷ [])) lacking_ink 1 origin ≡ clear }
     ensures deleted { frame_pixel (painted [] (through (node.Delete (to.Column 0) (1 ∷ [])) ∷ [])) mixed_word 1 origin
         ≡ channels 0 0 100 100 }
     ensures kept { frame_pixel (painted [] (through (node.Keep (to.Column 0) (1 ∷ [])) ∷ [])) mixed_word 1 origin
