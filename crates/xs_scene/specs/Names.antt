@@ -22,4 +22,5 @@ begins_with byte (first ∷ rest) = first == byte
 -- `IsName` as a test, for definitions that choose by it
 unfoldable pub is_name : List ℕ → Bool
 is_name text =
-    nat_le 1 (length text) && nat_le (length text) 200 && list_all is_name_byte text && not (begins_with 46 text) && not (begins_with 32 text)
+    nat_le 1 (length text) && nat_le (length text) 200 && list_all is_name_byte text
+    && not (begins_with 46 text) && not (begins_with 32 text)

@@ -31,7 +31,8 @@ impl StyleKey {
 
     /// The key with these fields; None exactly where one is out of its range.
     pub fn new(row: u32, style: u32, to: Style) -> Option<StyleKey>
-        ensures { let key : StyleKeyRecord = record { row = row; style = style; to = to } in SomeIff result (IsStyleKey key) key }
+        ensures { let key : StyleKeyRecord = record { row = row; style = style; to = to } in
+            SomeIff result (IsStyleKey key) key }
     {
         if is_row(row) && is_reference(style) {
             Some(StyleKey { row, style, to })

@@ -54,7 +54,8 @@ impl Exposure {
     /// The exposure with these fields; None exactly where one is out of its range or `to` is less than
     /// `from`.
     pub fn new(from: u32, to: u32, shown: Shown) -> Option<Exposure>
-        ensures { let cell : ExposureRecord = record { from = from; to = to; shown = shown } in SomeIff result (IsExposure cell) cell }
+        ensures { let cell : ExposureRecord = record { from = from; to = to; shown = shown } in
+            SomeIff result (IsExposure cell) cell }
     {
         if is_row(from) && is_row(to) && from <= to && shown.is_in_range() {
             Some(Exposure { from, to, shown })

@@ -33,7 +33,8 @@ impl PegKey {
 
     /// The key with these fields; None exactly where one is out of its range.
     pub fn new(row: u32, x: i32, y: i32, line: bool) -> Option<PegKey>
-        ensures { let key : PegKeyRecord = record { row = row; x = x; y = y; line = line } in SomeIff result (IsPegKey key) key }
+        ensures { let key : PegKeyRecord = record { row = row; x = x; y = y; line = line } in
+            SomeIff result (IsPegKey key) key }
     {
         if is_row(row) && is_offset(x) && is_offset(y) {
             Some(PegKey { row, x, y, line })

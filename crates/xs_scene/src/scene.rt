@@ -39,7 +39,8 @@ impl Camera {
 
     /// The camera with these fields; None exactly where one is out of its range.
     pub fn new(w: u32, h: u32, peg: Option<u32>) -> Option<Camera>
-        ensures { let camera : CameraRecord = record { w = w; h = h; peg = peg } in SomeIff result (IsCamera camera) camera }
+        ensures { let camera : CameraRecord = record { w = w; h = h; peg = peg } in
+            SomeIff result (IsCamera camera) camera }
     {
         if is_side(w) && is_side(h) && is_reference_or_none(peg) {
             Some(Camera { w, h, peg })
@@ -112,7 +113,8 @@ impl Scene {
         levels: List<Level>,
         sheets: List<Sheet>,
     ) -> Option<Scene>
-        ensures { SomeIff result (IsScene format palettes sheets) (record { format = format; camera = camera; palettes = palettes; levels = levels; sheets = sheets }) }
+        ensures { SomeIff result (IsScene format palettes sheets)
+            (record { format = format; camera = camera; palettes = palettes; levels = levels; sheets = sheets }) }
     {
         if format == 2 || format == 1 && is_plain(&palettes, &sheets) {
             Some(Scene {

@@ -56,7 +56,8 @@ impl Sheet {
         nodes: List<Node>,
         out: Option<List<Ref>>,
     ) -> Option<Sheet>
-        ensures { SomeIff result (IsSheet nodes out) (record { pegs = pegs; columns = columns; nodes = nodes; out = out }) }
+        ensures { SomeIff result (IsSheet nodes out)
+            (record { pegs = pegs; columns = columns; nodes = nodes; out = out }) }
     {
         if are_nodes_in_range(&nodes) && is_out_in_range(&out) {
             Some(Sheet {

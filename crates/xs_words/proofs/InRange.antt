@@ -8,7 +8,7 @@ use Rattle.xs_words.specs.declared.fault.WordsFault.{WordsFault}
 use Rattle.xs_words.specs.declared.fault.WordsFault.TheVariants as outcome
 use Rattle.xs_words.specs.Grammar.{Words, Check, checked, counted, render_checks, dry_checks, show_checks, make_checks, again_checks, render_reading, dry_reading, show_reading, make_reading, again_reading, reading_of, Reads}
 use Rattle.xs_words.specs.Commands.{IsCommand}
-use Rattle.xs_words.proofs.Tests.{within_from_test, range_from_tests, base_from_test, small_number}
+use Rattle.xs_words.proofs.Bounds.{within_from_test, range_from_tests, base_from_test, small_number}
 
 abbrev Reading : Type 0
 Reading = Result Command Usage

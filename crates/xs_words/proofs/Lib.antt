@@ -1,5 +1,5 @@
 pub mod Numbers
-pub mod Tests
+pub mod Bounds
 pub mod InRange
 pub mod ReadBack
 pub mod FirstFault

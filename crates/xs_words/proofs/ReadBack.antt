@@ -4,7 +4,7 @@ use Rattle.xs_words.specs.declared.command.Command.{Command}
 use Rattle.xs_words.specs.declared.command.Command.TheVariants.{Render, Dry, Show, Make, Again}
 use Rattle.xs_words.specs.Grammar.{reading_of}
 use Rattle.xs_words.specs.Commands.{IsCommand, IsReadBack}
-use Rattle.xs_words.proofs.Tests.{within_passes, last_row_passes, base_passes, decimal_passes, number_of-decimal}
+use Rattle.xs_words.proofs.Bounds.{within_passes, last_row_passes, base_passes, decimal_passes, number_of-decimal}
 
 pub read_back : (command : Command) → IsReadBack command
 unfolding reading_of

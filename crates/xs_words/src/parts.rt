@@ -24,7 +24,8 @@ pub(crate) fn word(words: &[String], place: u32) -> &str
 /// Refuses a line of more or fewer words.
 pub(crate) fn counted(words: &[String], count: usize) -> Result<(), Usage>
     ensures ok { OnOk result (length words.now ≡ count) }
-    ensures exact { MatchResult result (λ _. (length (map string_bytes words.now) == count) ≡ true) (λ fault. ((length (map string_bytes words.now) == count) ≡ false) × (fault ≡ Usage.Count)) }
+    ensures exact { MatchResult result (λ _. (length (map string_bytes words.now) == count) ≡ true)
+        (λ fault. ((length (map string_bytes words.now) == count) ≡ false) × (fault ≡ Usage.Count)) }
 {
     if words.len() == count {
         Ok(())
@@ -56,7 +57,8 @@ fn is_number(text: &str) -> bool
 /// The number that a word says.
 #[tactic(auto, using(crate::proofs::Numbers::parse_number))]
 pub(crate) fn number(text: &str, place: u32) -> Result<u32, Usage>
-    ensures { MatchResult result (λ n. (is_number text.now ≡ true) × (n ≡ number_of text.now)) (λ fault. (is_number text.now ≡ false) × (fault ≡ Usage.Number place)) }
+    ensures { MatchResult result (λ n. (is_number text.now ≡ true) × (n ≡ number_of text.now))
+        (λ fault. (is_number text.now ≡ false) × (fault ≡ Usage.Number place)) }
 {
     if !is_number(text) {
         return Err(Usage::Number(place));
@@ -71,7 +73,8 @@ pub(crate) fn number(text: &str, place: u32) -> Result<u32, Usage>
 #[tactic(auto, unfolding(crate::specs::Grammar::is_within))]
 pub(crate) fn within(n: u32, least: u32, most: u32, place: u32) -> Result<(), Usage>
     ensures bounds { OnOk result ((least ≤ n) × (n ≤ most)) }
-    ensures exact { MatchResult result (λ _. is_within least most n ≡ true) (λ fault. (is_within least most n ≡ false) × (fault ≡ Usage.Range place)) }
+    ensures exact { MatchResult result (λ _. is_within least most n ≡ true)
+        (λ fault. (is_within least most n ≡ false) × (fault ≡ Usage.Range place)) }
 {
     if least <= n && n <= most {
         Ok(())
@@ -84,7 +87,8 @@ pub(crate) fn within(n: u32, least: u32, most: u32, place: u32) -> Result<(), Us
 #[tactic(auto, unfolding(crate::specs::Grammar::is_last_row))]
 pub(crate) fn last_row(from: u32, span: u32, to: u32, place: u32) -> Result<(), Usage>
     requires { from + span < 2 ^ 32 }
-    ensures { MatchResult result (λ _. is_last_row from span to ≡ true) (λ fault. (is_last_row from span to ≡ false) × (fault ≡ Usage.Range place)) }
+    ensures { MatchResult result (λ _. is_last_row from span to ≡ true)
+        (λ fault. (is_last_row from span to ≡ false) × (fault ≡ Usage.Range place)) }
 {
     if from <= to && to <= LAST_ROW && to <= from + span {
         Ok(())
