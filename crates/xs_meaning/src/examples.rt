@@ -96,18 +96,37 @@ pub fn terminals()
     ensures none { root_of (one_off (Some [])) 1 ≡ Clear }
 {}
 
-/// Pairs and cards, and what vanishes where an input is clear.
+/// A pair is its operation on its first input, the upper one, and its second; a card is its pixel
+/// everywhere.
 pub fn pairs_and_cards()
-    ensures product { frame_pixel (with_empty (node.Pair op.Mult (to.Column 0) (to.Column 0))) three_pixels 1 origin
-        ≡ channels 0 2 4 255 }
-    ensures over_nothing { root_of (with_empty (node.Pair op.Over (to.Column 0) (to.Column 1))) 1 ≡ Leaf 0 origin }
-    ensures sub_nothing { root_of (with_empty (node.Pair op.Sub (to.Column 1) (to.Column 0))) 1 ≡ Leaf 0 origin }
-    ensures sub_from_nothing { root_of (with_empty (node.Pair op.Sub (to.Column 0) (to.Column 1))) 1 ≡ Clear }
-    ensures in_nothing { root_of (with_empty (node.Pair op.MatteIn (to.Column 0) (to.Column 1))) 1 ≡ Clear }
-    ensures out_of_nothing { root_of (with_empty (node.Pair op.MatteOut (to.Column 0) (to.Column 1))) 1 ≡ Leaf 0 origin }
-    ensures nothing_out { root_of (with_empty (node.Pair op.MatteOut (to.Column 1) (to.Column 0))) 1 ≡ Clear }
+    ensures product { frame_pixel (with_empty (node.Pair op.Mult (to.Column 0) (to.Column 0))) three_pixels 1 origin ≡ channels 0 2 4 255 }
+    ensures pair { root_of (with_empty (node.Pair op.Mult (to.Column 0) (to.Column 0))) 1 ≡ Pair op.Mult (Leaf 0 origin) (Leaf 0 origin) }
     ensures card { root_of (with_empty (node.Card (style 255 0 0 128))) 1 ≡ Card (channels 128 0 0 128) }
     ensures clear_card { root_of (with_empty (node.Card (style 9 9 9 0))) 1 ≡ Clear }
+{}
+
+/// What vanishes from a pair where the first input shows nothing (column 1).
+pub fn pairs_with_clear_first()
+    ensures over { root_of (with_empty (node.Pair op.Over (to.Column 1) (to.Column 0))) 1 ≡ Leaf 0 origin }
+    ensures add { root_of (with_empty (node.Pair op.Add (to.Column 1) (to.Column 0))) 1 ≡ Leaf 0 origin }
+    ensures sub { root_of (with_empty (node.Pair op.Sub (to.Column 1) (to.Column 0))) 1 ≡ Leaf 0 origin }
+    ensures mult { root_of (with_empty (node.Pair op.Mult (to.Column 1) (to.Column 0))) 1 ≡ Clear }
+    ensures min { root_of (with_empty (node.Pair op.Min (to.Column 1) (to.Column 0))) 1 ≡ Clear }
+    ensures max { root_of (with_empty (node.Pair op.Max (to.Column 1) (to.Column 0))) 1 ≡ Leaf 0 origin }
+    ensures matte_in { root_of (with_empty (node.Pair op.MatteIn (to.Column 1) (to.Column 0))) 1 ≡ Clear }
+    ensures matte_out { root_of (with_empty (node.Pair op.MatteOut (to.Column 1) (to.Column 0))) 1 ≡ Clear }
+{}
+
+/// What vanishes from a pair where the second input shows nothing.
+pub fn pairs_with_clear_second()
+    ensures over { root_of (with_empty (node.Pair op.Over (to.Column 0) (to.Column 1))) 1 ≡ Leaf 0 origin }
+    ensures add { root_of (with_empty (node.Pair op.Add (to.Column 0) (to.Column 1))) 1 ≡ Leaf 0 origin }
+    ensures sub { root_of (with_empty (node.Pair op.Sub (to.Column 0) (to.Column 1))) 1 ≡ Clear }
+    ensures mult { root_of (with_empty (node.Pair op.Mult (to.Column 0) (to.Column 1))) 1 ≡ Clear }
+    ensures min { root_of (with_empty (node.Pair op.Min (to.Column 0) (to.Column 1))) 1 ≡ Clear }
+    ensures max { root_of (with_empty (node.Pair op.Max (to.Column 0) (to.Column 1))) 1 ≡ Leaf 0 origin }
+    ensures matte_in { root_of (with_empty (node.Pair op.MatteIn (to.Column 0) (to.Column 1))) 1 ≡ Clear }
+    ensures matte_out { root_of (with_empty (node.Pair op.MatteOut (to.Column 0) (to.Column 1))) 1 ≡ Leaf 0 origin }
 {}
 
 /// A blur of radius 1 spreads a pixel over nine; reaches add up.
