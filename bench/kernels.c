@@ -8,7 +8,7 @@
 #include <string.h>
 #include <time.h>
 
-enum { SIDE = 64, PIXELS = SIDE * SIDE, BYTES = 4 * PIXELS, TILES = 200, ROUNDS = 40 };
+enum { SIDE = 64, PIXELS = SIDE * SIDE, BYTES = 4 * PIXELS, TILES = 16, ROUNDS = 500 };
 
 static const struct {
     const char *name;

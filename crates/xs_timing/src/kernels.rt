@@ -15,9 +15,9 @@ use xs_palette::Palette;
 use xs_pixel::{Op, Pixel};
 
 /// How many tiles are done between two looks at the clock, and how often; the least time counts.
-const TILES: u32 = 200;
+const TILES: u32 = 16;
 
-const ROUNDS: u32 = 40;
+const ROUNDS: u32 = 500;
 
 /// How many tiles are written for a comparison: a little over 10 million pixels.
 const COMPARED: u32 = 2442;
