@@ -1,0 +1,78 @@
+-- What a drawing that is set changes.
+use Rattle.std.proofs.Common.{IfSome, ◌≡◌, ℕ, zero, suc, ◌<◌, Option, Some, None, List, [], ◌∷◌, length, replicate, slice_get, slice_set, get_or, IsSome, option_and_then, refl, ap, sym, subst, inl, inr, ◌⊎◌, arith}
+use Rattle.std.proofs.lemmas.Bool.{cases_eq}
+use Rattle.xs_pixel.specs.Channels.{Channels}
+use Rattle.xs_pixel.specs.Picture.{Picture}
+use Rattle.xs_rawfile.specs.declared.drawing.RawKind.{RawKind}
+use Rattle.xs_rawfile.specs.Raw.{Raw}
+use Rattle.xs_rawfile.specs.Held.{Held, held, slot_in, IsIn, IsHeld, Names, picture_of}
+
+-- a written item is read back, and every other stays
+pub slice_get-set_same : {A : Type 0} (xs : List A) (i : ℕ) (x y : A) → slice_get (slice_set xs i x) i ≡ Some y → x ≡ y
+slice_get-set_same [] i x y h = absurd cc
+slice_get-set_same (z ∷ xs) zero x y h = cc
+slice_get-set_same (z ∷ xs) (suc i) x y h = slice_get-set_same xs i x y h
+
+pub slice_get-set_other : {A : Type 0} (xs : List A) (i j : ℕ) (x : A) → (i ≡ j → ⊥) → slice_get (slice_set xs i x) j ≡ slice_get xs j
+slice_get-set_other [] i j x other = refl
+slice_get-set_other (z ∷ xs) zero zero x other = absurd (other refl)
+slice_get-set_other (z ∷ xs) zero (suc j) x other = refl
+slice_get-set_other (z ∷ xs) (suc i) zero x other = refl
+slice_get-set_other (z ∷ xs) (suc i) (suc j) x other = slice_get-set_other xs i j x (λ same. other (omega arith))
+
+some_same : {A : Type 0} {x y : A} → Some x ≡ Some y → x ≡ y
+some_same h = cc
+
+-- what is held after a set is the new drawing, or was held before
+pub held_after_set : (h : Held) (d e : ℕ) (g g' : Raw) (palette palette' : Option ℕ) → IsIn (held (slice_set h.slots d (Some (g, palette))) h.palettes) e g' palette'
+    → ((d ≡ e) × (g ≡ g') × (palette ≡ palette')) ⊎ IsIn h e g' palette'
+held_after_set h d e g g' palette palette' is =
+    elim (cases_eq d e) [
+      | inl same ↦
+          let pair : Some (g, palette) ≡ Some (g', palette') = slice_get-set_same h.slots d (Some (g, palette)) (Some (g', palette')) (subst (λ (i : ℕ). slice_get (slice_set h.slots d (Some (g, palette))) i ≡ Some (Some (g', palette'))) (sym same) is) in
+          let both = some_same pair in inl (same, ap (λ (q : Raw × Option ℕ). q.0) both, ap (λ (q : Raw × Option ℕ). q.1) both)
+      | inr other ↦ inr (rw (slice_get-set_other h.slots d e (Some (g, palette)) other) at is)
+    ]
+
+pub set_held : (pictures : Option (ℕ → Option Picture)) (h : Held) (d : ℕ) (g : Raw) (palette : Option ℕ) → IsHeld pictures h → Names h.palettes g.kind palette
+    → ((told : ℕ → Option Picture) → pictures ≡ Some told → told d ≡ Some (picture_of h.palettes g palette)) → IsHeld pictures (held (slice_set h.slots d (Some (g, palette))) h.palettes)
+set_held pictures h d g palette before names film = record {
+  named = λ e g' palette' is.
+      elim (held_after_set h d e g g' palette palette' is) [
+        | inl new ↦ subst (λ (q : Option ℕ). Names h.palettes g'.kind q) new.2 (subst (λ (r : Raw). Names h.palettes r.kind palette) new.1 names)
+        | inr old ↦ before.named e g' palette' old
+      ];
+  filmed = λ told tells e g' palette' is.
+      elim (held_after_set h d e g g' palette palette' is) [
+        | inl new ↦ subst (λ (i : ℕ). told i ≡ Some (picture_of h.palettes g' palette')) new.0 (subst (λ (q : Option ℕ). told d ≡ Some (picture_of h.palettes g' q)) new.2 (subst (λ (r : Raw). told d ≡ Some (picture_of h.palettes r palette)) new.1 (film told tells)))
+        | inr old ↦ before.filmed told tells e g' palette' old
+      ];
+}
+
+none_in_empty : (n d : ℕ) (x : Raw × Option ℕ) → slice_get {X = Option (Raw × Option ℕ)} (replicate n None) d ≡ Some (Some x) → ⊥
+none_in_empty zero d x h = cc
+none_in_empty (suc n) zero x h = cc
+none_in_empty (suc n) (suc d) x h = none_in_empty n d x h
+
+pub nothing_held : (pictures : Option (ℕ → Option Picture)) (n : ℕ) (palettes : List (List Channels)) → IsHeld pictures (held (replicate n None) palettes)
+nothing_held pictures n palettes = record {
+  named = λ d g palette is. absurd (none_in_empty n d (g, palette) is);
+  filmed = λ told tells d g palette is. absurd (none_in_empty n d (g, palette) is);
+}
+
+-- the palette of a drawing that is held exists
+pub names_some : (palettes : List (List Channels)) (kind : RawKind) (palette : Option ℕ) → Names palettes kind palette → IfSome palette (λ n. n < length palettes)
+names_some palettes kind (Some n) names = names
+names_some palettes kind None names = tt
+
+-- a drawing that is held has a number in range
+pub held_in_range : (slots : List (Option (Raw × Option ℕ))) (d : ℕ) → IsSome (option_and_then (λ slot. slot) (slice_get slots d)) → d < length slots
+held_in_range [] d h = absurd cc
+held_in_range (slot ∷ slots) zero h = omega arith
+held_in_range (slot ∷ slots) (suc d) h = let rest = held_in_range slots d h in omega arith
+
+-- what is read at a place is there
+pub get_from_index : {A : Type 0} (xs : List A) (i : ℕ) (x : A) → i < length xs → x ≡ get_or xs i x → slice_get xs i ≡ Some x
+get_from_index [] i x within h = absurd (omega arith)
+get_from_index (y ∷ xs) zero x within h = ap Some (sym h)
+get_from_index (y ∷ xs) (suc i) x within h = get_from_index xs i x (omega arith) h

@@ -1,0 +1,5 @@
+pub mod Faults
+pub mod Holding
+pub mod Laws
+pub mod Scanning
+pub mod Truths

@@ -1,0 +1,8 @@
+use Rattle.xs_rawfile.proofs.Laws as laws
+use Rattle.xs_rawfile.proofs.level.level_format.Goals as goal
+
+pub returns-clause-accepted : goal.returns-clause-accepted
+returns-clause-accepted c = laws.accepted
+
+pub returns-clause-read_back : goal.returns-clause-read_back
+returns-clause-read_back c = laws.read_back

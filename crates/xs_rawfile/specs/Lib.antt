@@ -1,0 +1,7 @@
+pub mod Codes
+pub mod Raw
+pub mod Pixels
+pub mod Frame
+pub mod Held
+pub mod Level
+pub mod Tests

@@ -1,0 +1,166 @@
+ghost use Rattle.std.specs.Prelude.{◌≡◌, ℕ, ◌*◌, ◌≤◌, ◌↔◌, length, IsTrue, IsSome, IfSome};
+ghost use Rattle.std.specs.Simd.Lanes.{Each1};
+ghost use Rattle.xs_pixel.specs.Channels.{IsPixel};
+ghost use Rattle.xs_pixel.specs.Rows.{pixels};
+ghost use Rattle.xs_rawfile.specs.Tests.{is_side, is_place, kind_byte};
+ghost use Rattle.xs_rawfile.specs.Raw.{Raw, raw, IsRaw, IsSide, IsPlace, Fills};
+
+use crate::premultiplied::first_unmultiplied;
+use std::marker::Model;
+use xs_pixel::List;
+
+/// The longest side of a drawing, in pixels.
+pub const LONGEST_SIDE: u32 = 4096;
+
+/// How far the corner of a drawing may lie from the origin along each axis, in pixels.
+pub const FARTHEST: i32 = 65_536;
+
+/// What the four bytes of a pixel are in a file: red, green, blue and matte, or a CM32 word.
+#[derive(Clone, Copy, Debug, PartialEq, Eq)]
+pub enum RawKind {
+    Colour,
+    Cm32,
+}
+
+impl RawKind {
+    /// The byte that stands for the kind in a file.
+    pub(crate) fn byte(self) -> u8
+        ensures { result ≡ kind_byte self }
+    {
+        match self {
+            RawKind::Colour => 0,
+            RawKind::Cm32 => 1,
+        }
+    }
+}
+
+/// A drawing as its file holds it: the corner of its box with the least x and y, the sides of the
+/// box, and four bytes for each pixel, in rows from the lowest up and each from left to right.
+#[derive(Debug, Drop)]
+pub struct Drawing {
+    pub(crate) x0: i32,
+    pub(crate) y0: i32,
+    pub(crate) w: u32,
+    pub(crate) h: u32,
+    pub(crate) kind: RawKind,
+    pub(crate) bytes: List<u8>,
+}
+
+impl Model for Drawing {
+    ghost use Rattle.xs_rawfile.specs.Raw.{Raw, raw, IsRaw};
+
+    ghost Value = { Raw };
+
+    ghost view = { λ d. raw d.x0 d.y0 d.w d.h d.kind d.bytes };
+
+    ghost invariant = { λ d. IsRaw (raw d.x0 d.y0 d.w d.h d.kind d.bytes) };
+}
+
+impl Drawing {
+    /// The drawing with these fields; None exactly where its file would be refused.
+    pub fn new(x0: i32, y0: i32, w: u32, h: u32, kind: RawKind, bytes: List<u8>) -> Option<Drawing>
+        ensures valid { IsSome result ↔ IsRaw (raw x0 y0 w h kind bytes) }
+        ensures value { IfSome result (λ d. d ≡ raw x0 y0 w h kind bytes) }
+    {
+        if is_side(w)
+            && is_side(h)
+            && is_place(x0)
+            && is_place(y0)
+            && bytes.items().len() == 4 * (w as usize * h as usize)
+            && fills(kind, bytes.items())
+        {
+            Some(Drawing {
+                x0,
+                y0,
+                w,
+                h,
+                kind,
+                bytes,
+            })
+        } else {
+            None
+        }
+    }
+
+    /// The least x of the box.
+    pub fn x0(&self) -> i32
+        ensures value { result ≡ self.now.x0 }
+        ensures range { IsPlace result }
+    {
+        self.x0
+    }
+
+    /// The least y of the box.
+    pub fn y0(&self) -> i32
+        ensures value { result ≡ self.now.y0 }
+        ensures range { IsPlace result }
+    {
+        self.y0
+    }
+
+    /// The pixels from left to right.
+    pub fn w(&self) -> u32
+        ensures value { result ≡ self.now.w }
+        ensures range { IsSide result }
+    {
+        self.w
+    }
+
+    /// The pixels from bottom to top.
+    pub fn h(&self) -> u32
+        ensures value { result ≡ self.now.h }
+        ensures range { IsSide result }
+    {
+        self.h
+    }
+
+    /// What the bytes of a pixel are.
+    pub fn kind(&self) -> RawKind
+        ensures { result ≡ self.now.kind }
+    {
+        self.kind
+    }
+
+    /// The bytes of all pixels.
+    pub fn bytes(&self) -> &[u8]
+        ensures value { result.now ≡ self.now.bytes }
+        ensures raw { IsRaw self.now }
+    {
+        self.bytes.items()
+    }
+}
+
+/// Whether the bytes may stand for pixels of a drawing of this kind.
+fn fills(kind: RawKind, bytes: &[u8]) -> bool
+    ensures { IsTrue result ↔ Fills kind bytes.now }
+{
+    match kind {
+        RawKind::Colour => fills_colours(bytes),
+        RawKind::Cm32 => true,
+    }
+}
+
+fn fills_colours(bytes: &[u8]) -> bool
+    ensures { IsTrue result ↔ Each1 IsPixel (pixels bytes.now) }
+{
+    match first_unmultiplied(bytes) {
+        Some(_) => false,
+        None => true,
+    }
+}
+
+/// Whether a drawing may have a side of so many pixels.
+pub(crate) fn is_side(side: u32) -> bool
+    ensures test { result ≡ is_side side }
+    ensures fact { IsTrue result ↔ IsSide side }
+{
+    1 <= side && side <= LONGEST_SIDE
+}
+
+/// Whether the corner of a drawing may lie at this place of an axis.
+pub(crate) fn is_place(at: i32) -> bool
+    ensures test { result ≡ is_place at }
+    ensures fact { IsTrue result ↔ IsPlace at }
+{
+    -FARTHEST <= at && at <= FARTHEST
+}

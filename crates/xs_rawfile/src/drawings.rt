@@ -1,0 +1,98 @@
+ghost use Rattle.std.specs.Prelude.{◌≡◌, ℕ, ◌<◌, ◌↔◌, Option, None, Some, length, replicate, IfOk, IfSome, IsNone, IsSome, slice_get, slice_set};
+ghost use Rattle.xs_rawfile.specs.Held.{Held, held, Names, drawing_in, slot_in, picture_of};
+ghost use Rattle.xs_pixel.specs.Picture.{Picture};
+
+use crate::drawing::Drawing;
+use std::alloc::Global;
+use std::marker::{Model, PhantomData};
+use xs_palette::Palette;
+use xs_pixel::{Film, List, Memory};
+
+/// The drawings of a render that are held in memory, by number, and the palettes under which CM32
+/// drawings are seen. Where the film tells its pictures, each drawing that is held is its picture.
+pub struct Drawings<K: Film> {
+    slots: Vec<Option<(Drawing, Option<u32>)>>,
+    palettes: List<Palette>,
+    film: PhantomData<K>,
+}
+
+impl<K: Film> Model for Drawings<K> {
+    ghost use Rattle.xs_rawfile.specs.Held.{Held, held, IsHeld};
+
+    ghost Value = { Held };
+
+    ghost view = { λ d. held d.slots.items d.palettes };
+
+    ghost invariant = { λ d. IsHeld K.pictures (held d.slots.items d.palettes) };
+}
+
+impl<K: Film> Drawings<K> {
+    /// Room for so many drawings, of which none is held yet.
+    pub fn new(alloc: Global, count: u32, palettes: List<Palette>) -> Result<Drawings<K>, Memory>
+        ensures { IfOk result (λ d. d ≡ held (replicate count None) palettes) }
+    {
+        let mut slots = Vec::with_capacity(alloc, count as usize)?;
+        'slots: for _slot in 0..count {
+            slots.push_reserved(None);
+        }
+        Ok(Drawings {
+            slots,
+            palettes,
+            film: PhantomData,
+        })
+    }
+
+    /// Holds a drawing under its number, with the number of its palette; a CM32 drawing needs one.
+    pub fn set(&mut self, d: u32, g: Drawing, palette: Option<u32>)
+        requires number { d < length self.old.slots }
+        requires palette { Names self.old.palettes g.kind palette }
+        requires film { (pictures : ℕ → Option Picture) → K.pictures ≡ Some pictures → pictures d ≡ Some (picture_of self.old.palettes g palette) }
+        ensures { self.new ≡ held (slice_set self.old.slots d (Some (g, palette))) self.old.palettes }
+    {
+        self.slots[d as usize] = Some((g, palette));
+    }
+
+    /// Lets a drawing go.
+    pub fn remove(&mut self, d: u32)
+        requires { d < length self.old.slots }
+        ensures { self.new ≡ held (slice_set self.old.slots d None) self.old.palettes }
+    {
+        self.slots[d as usize] = None;
+    }
+
+    /// The drawing with this number; None exactly where it isn't held.
+    pub fn get(&self, d: u32) -> Option<&Drawing>
+        requires { d < length self.now.slots }
+        ensures none { IsNone result ↔ (drawing_in self.now d ≡ None) }
+        ensures value { IfSome result (λ g. drawing_in self.now d ≡ Some g.now) }
+    {
+        match &self.slots[d as usize] {
+            Some((drawing, _)) => Some(drawing),
+            None => None,
+        }
+    }
+
+    /// The palette under which a drawing is held; None exactly where it was set with none.
+    pub fn palette(&self, d: u32) -> Option<&Palette>
+        requires { IsSome (slot_in self.now d) }
+        ensures none { IfSome (slot_in self.now d) (λ slot. IsNone result ↔ (slot.1 ≡ None)) }
+        ensures value { IfSome result (λ p. IfSome (slot_in self.now d) (λ slot. IfSome slot.1 (λ n. slice_get self.now.palettes n ≡ Some p.now))) }
+    {
+        match &self.slots[d as usize] {
+            Some((_, number)) => named(self.palettes.items(), *number),
+            None => None,
+        }
+    }
+}
+
+/// The palette with this number, if there is one.
+fn named(palettes: &[Palette], number: Option<u32>) -> Option<&Palette>
+    requires { IfSome number (λ n. n < length palettes.now) }
+    ensures none { IsNone result ↔ (number ≡ None) }
+    ensures value { IfSome result (λ p. IfSome number (λ n. slice_get palettes.now n ≡ Some p.now)) }
+{
+    match number {
+        Some(n) => Some(&palettes[n as usize]),
+        None => None,
+    }
+}
