@@ -171,8 +171,8 @@ shuffled =
     (column_on 0 (shows 1 1 1 ∷ shows 2 3 0 ∷ []) ∷ []) (Shuffle (ToColumn 0) (2 ∷ 1 ∷ []) ∷ [])
     (Some (ToNode 0 ∷ [])))
 
--- peg 0 moves in a line from row 1 to row 4 and stays until row 9, peg 1 has its keys in the other order, peg 2 holds them,
--- and peg 3 hangs on peg 2
+-- peg 0 moves in a line from row 1 to row 4 and stays until row 9, peg 1 has the first two keys in the
+-- other order, peg 2 holds, and peg 3 hangs on peg 2
 abbrev pub pegs : SheetRecord
 pegs =
     sheet
