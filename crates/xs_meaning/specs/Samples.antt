@@ -171,12 +171,12 @@ shuffled =
     (column_on 0 (shows 1 1 1 ∷ shows 2 3 0 ∷ []) ∷ []) (Shuffle (ToColumn 0) (2 ∷ 1 ∷ []) ∷ [])
     (Some (ToNode 0 ∷ [])))
 
--- peg 0 moves in a line from row 1 to row 4, peg 1 has its keys in the other order, peg 2 holds them,
--- and peg 3 hangs on peg 2
+-- peg 0 moves in a line from row 1 to row 4 and stays until row 9, peg 1 has the first two keys in the
+-- other order, peg 2 holds, and peg 3 hangs on peg 2
 abbrev pub pegs : SheetRecord
 pegs =
     sheet
-    (root_peg (line_at 1 (pos 0) (pos 0) ∷ hold_at 4 (negsuc 4) (pos 10) ∷ [])
+    (root_peg (line_at 1 (pos 0) (pos 0) ∷ hold_at 4 (negsuc 4) (pos 10) ∷ hold_at 9 (pos 50) (pos 50) ∷ [])
     ∷ root_peg (hold_at 4 (negsuc 4) (pos 10) ∷ line_at 1 (pos 0) (pos 0) ∷ [])
     ∷ root_peg (hold_at 2 (pos 1) (pos 2) ∷ hold_at 4 (negsuc 4) (pos 10) ∷ [])
     ∷ child_peg 2 (hold_at 3 (pos 100) (pos 100) ∷ [])

@@ -58,7 +58,8 @@ pub fn places_by_keys()
     ensures line_after_a_third { place_of pegs (Some 0) 2 ≡ point (negsuc 1) (pos 3) }
     ensures line_after_two_thirds { place_of pegs (Some 0) 3 ≡ point (negsuc 3) (pos 6) }
     ensures line_ends { place_of pegs (Some 0) 4 ≡ point (negsuc 4) (pos 10) }
-    ensures last_key_stays { place_of pegs (Some 0) 5 ≡ point (negsuc 4) (pos 10) }
+    ensures key_stays { place_of pegs (Some 0) 5 ≡ point (negsuc 4) (pos 10) }
+    ensures third_key { place_of pegs (Some 0) 9 ≡ point (pos 50) (pos 50) }
     ensures any_order { place_of pegs (Some 1) 3 ≡ point (negsuc 3) (pos 6) }
     ensures before_the_first_key { place_of pegs (Some 2) 1 ≡ origin }
     ensures held { place_of pegs (Some 2) 3 ≡ point (pos 1) (pos 2) }
