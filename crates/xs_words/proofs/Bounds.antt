@@ -1,9 +1,7 @@
-use Rattle.std.proofs.Common.{◌≡◌, ℕ, ◌+◌, ◌≤◌, ◌<◌, ◌^◌, List, length, Bool, true, arith, decimal, refl}
+use Rattle.std.proofs.Common.{◌≡◌, ℕ, ◌+◌, ◌≤◌, ◌<◌, List, length, true, arith, decimal}
 use Rattle.std.proofs.lemmas.Bool.{and_parts, and_from, leb-true, le-leb}
 use Rattle.std.proofs.lemmas.Fmt.{digits_decimal, digits_value-decimal, decimal_nonempty, length-decimal-le}
 use Rattle.std.proofs.lemmas.Str.Parse.{digits_value_short}
-use Rattle.xs_scene.specs.Ranges.{IsRow}
-use Rattle.xs_scene.specs.Names.{is_name}
 use Rattle.xs_scene.proofs.NameTest.{is_name_holds, IsName-from_is_name}
 use Rattle.xs_words.specs.Grammar.{is_number, number_of, is_within, is_last_row, is_base}
 use Rattle.xs_words.specs.Commands.{IsRange, IsBase}

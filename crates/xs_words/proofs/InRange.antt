@@ -1,5 +1,4 @@
-use Rattle.std.proofs.Common.{◌≡◌, ℕ, List, [], ◌∷◌, length, Bool, true, false, cond, Result, Ok, Err, IfOk, ◌⊎◌, inl, inr, refl, subst, ◌==◌, codes}
-use Rattle.std.specs.Str.{bytes_eq}
+use Rattle.std.proofs.Common.{◌≡◌, ℕ, List, [], ◌∷◌, length, Bool, true, false, cond, Result, Ok, Err, IfOk, refl, subst, ◌==◌}
 use Rattle.xs_scene.proofs.NameTest.{IsName-from_is_name}
 use Rattle.xs_words.specs.declared.command.Command.{Command}
 use Rattle.xs_words.specs.declared.fault.Usage.{Usage}

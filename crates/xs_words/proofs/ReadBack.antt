@@ -1,9 +1,9 @@
-use Rattle.std.proofs.Common.{◌≡◌, ℕ, Ok, refl, arith, true}
+use Rattle.std.proofs.Common.{refl, arith}
 use Rattle.xs_scene.proofs.NameTest.{is_name_holds}
 use Rattle.xs_words.specs.declared.command.Command.{Command}
 use Rattle.xs_words.specs.declared.command.Command.TheVariants.{Render, Dry, Show, Make, Again}
 use Rattle.xs_words.specs.Grammar.{reading_of}
-use Rattle.xs_words.specs.Commands.{IsCommand, IsReadBack}
+use Rattle.xs_words.specs.Commands.{IsReadBack}
 use Rattle.xs_words.proofs.Bounds.{within_passes, last_row_passes, base_passes, decimal_passes, number_of-decimal}
 
 pub read_back : (command : Command) → IsReadBack command

@@ -1,4 +1,4 @@
-use Rattle.std.specs.Prelude.{ℕ, ◌+◌, ◌≡◌, ◌≤◌, ◌<◌, List, [], ◌∷◌, length, Result, Ok, codes, decimal}
+use Rattle.std.specs.Prelude.{ℕ, ◌+◌, ◌≡◌, ◌≤◌, ◌<◌, List, [], ◌∷◌, length, Ok, codes, decimal}
 use Rattle.xs_scene.specs.Names.{IsName}
 use Rattle.xs_scene.specs.Ranges.{IsRow}
 use Rattle.xs_words.specs.declared.command.Command.{Command}

@@ -11,3 +11,6 @@ pub use command::Command;
 pub use fault::{Usage, WordsFault};
 pub use law::{first_fault_is_told, words_are_read_back};
 pub use reading::read_words;
+
+#[cfg(test)]
+mod tests;

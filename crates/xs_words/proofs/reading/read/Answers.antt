@@ -1,4 +1,4 @@
-use Rattle.std.proofs.Common.{◌≡◌, ℕ, false, length, map, string_bytes, ◌==◌, ◌∙◌, sym}
+use Rattle.std.proofs.Common.{string_bytes, ◌∙◌, sym}
 use Rattle.std.proofs.lemmas.List.{length-map}
 use Rattle.xs_words.proofs.UnknownCommand.{unknown_command}
 use Rattle.xs_words.proofs.reading.read.Goals as goal
