@@ -1,5 +1,5 @@
 -- The file of each drawing is read back, and no other bytes are.
-use Rattle.std.proofs.Common.{◌≡◌, ℕ, ◌+◌, ◌-◌, ◌*◌, ◌/◌, ◌%◌, ◌^◌, ◌<◌, ◌≤◌, ℤ, pos, negsuc, neg_ℤ, ◌≤ℤ◌, Bool, true, false, not, ◌&&◌, nat_lt, nat_le, ◌==◌, int_le, Option, None, List, [], ◌∷◌, ◌++◌, length, drop, w32, of_z, to_z, FitsSigned, refl, ap, sym, ◌∙◌, subst, arith}
+use Rattle.std.proofs.Common.{◌≡◌, ℕ, ◌+◌, ◌-◌, ◌*◌, ◌/◌, ◌%◌, ◌^◌, ◌<◌, ◌≤◌, ℤ, pos, negsuc, neg_ℤ, ◌≤ℤ◌, Bool, true, false, not, ◌&&◌, nat_lt, nat_le, ◌==◌, int_le, Option, None, List, [], ◌∷◌, ◌++◌, length, drop, slice_index, w32, of_z, to_z, FitsSigned, refl, ap, sym, ◌∙◌, subst, arith}
 use Rattle.std.specs.Simd.Lanes.{Each1}
 use Rattle.std.proofs.lemmas.Bool.Decides.{nat_tests}
 use Rattle.std.proofs.lemmas.Int.{ints, to_z-of_z, of_z-to_z}
@@ -8,9 +8,10 @@ use Rattle.xs_rawfile.specs.declared.drawing.RawKind.TheVariants.{Colour, Cm32}
 use Rattle.xs_rawfile.specs.Raw.{Raw, raw, IsRaw, IsPlace, IsSide, Fills}
 use Rattle.xs_rawfile.specs.Tests.{is_side, is_place, kind_byte}
 use Rattle.xs_rawfile.specs.Pixels.{unmultiplied_fault}
-use Rattle.xs_rawfile.specs.Level.{four_bytes, level_bytes, raw_of, number_at, first_fault, lacks_magic, has_unknown_kind, has_other_kind, has_wrong_side, has_wrong_place, has_wrong_length}
+use Rattle.xs_rawfile.specs.Level.{magic, four_bytes, level_bytes, raw_of, number_at, first_fault, lacks_magic, has_unknown_kind, has_other_kind, has_wrong_side, has_wrong_place, has_wrong_length}
 use Rattle.xs_rawfile.proofs.Faults.{passes, long_enough}
 use Rattle.xs_rawfile.proofs.Scanning.{none_from_fills}
+use Rattle.xs_rawfile.proofs.Truths.{not_false, and_true, and_false}
 
 -- four bytes give the number back
 pub number_of_four : (n : ℕ) → n < 4294967296 → n % 256 + 256 * (n / 256 % 256) + 65536 * (n / 65536 % 256) + 16777216 * (n / 16777216 % 256) ≡ n
@@ -93,3 +94,50 @@ four_back a b c d la lb lc ld =
     let r : n / 65536 % 256 ≡ c = omega arith in
     let t : n / 16777216 % 256 ≡ d = omega arith in
     rw (back, p, q, r, t)
+
+plain_back : (a b c d : ℕ) → a < 256 → b < 256 → c < 256 → d < 256 → four_bytes (a + 256 * b + 65536 * c + 16777216 * d) ≡ a ∷ b ∷ c ∷ d ∷ []
+plain_back a b c d la lb lc ld =
+    let n = a + 256 * b + 65536 * c + 16777216 * d in
+    let p : n % 256 ≡ a = omega arith in
+    let q : n / 256 % 256 ≡ b = omega arith in
+    let r : n / 65536 % 256 ≡ c = omega arith in
+    let t : n / 16777216 % 256 ≡ d = omega arith in
+    rw (p, q, r, t)
+
+joined : (k k' : ℕ) (xs xs' ys ys' ws ws' hs hs' rest : List ℕ) → k ≡ k' → xs ≡ xs' → ys ≡ ys' → ws ≡ ws' → hs ≡ hs'
+    → magic ++ (k ∷ xs) ++ ys ++ ws ++ hs ++ rest ≡ magic ++ (k' ∷ xs') ++ ys' ++ ws' ++ hs' ++ rest
+joined k k' xs xs' ys ys' ws ws' hs hs' rest ek ex ey ew eh = rw (ek, ex, ey, ew, eh)
+
+-- the letters that a file begins with
+begins : (m0 m1 m2 m3 : ℕ) (rest : List ℕ) → lacks_magic (m0 ∷ m1 ∷ m2 ∷ m3 ∷ rest) ≡ false → (m0 ≡ 88) × (m1 ≡ 82) × (m2 ≡ 76) × (m3 ≡ 49)
+unfolding lacks_magic
+begins m0 m1 m2 m3 rest h =
+    let all : (88 == m0 && (82 == m1 && (76 == m2 && (49 == m3 && true)))) ≡ true = not_false _ h in
+    let a = and_true (88 == m0) (82 == m1 && (76 == m2 && (49 == m3 && true))) all in
+    let b = and_true (82 == m1) (76 == m2 && (49 == m3 && true)) a.1 in
+    let c = and_true (76 == m2) (49 == m3 && true) b.1 in
+    let d = and_true (49 == m3) true c.1 in
+    (grind (arith, nat_tests, a.0), grind (arith, nat_tests, b.0), grind (arith, nat_tests, c.0), grind (arith, nat_tests, d.0))
+
+kind_told : (kind : RawKind) (bytes : List ℕ) → 21 ≤ length bytes → has_other_kind kind bytes ≡ false → slice_index bytes 4 ≡ kind_byte kind
+unfolding has_other_kind
+kind_told kind bytes long h =
+    let there : nat_lt 4 (length bytes) ≡ true = grind (arith, nat_tests) in
+    let same = not_false _ (and_false _ _ h there) in
+    grind (arith, nat_tests, same)
+
+-- a file without a fault is the file of the drawing that it holds
+pub no_other : (kind : RawKind) (bytes : List ℕ) → Each1 (λ b. b < 256) bytes → first_fault kind bytes ≡ None → level_bytes (raw_of kind bytes) ≡ bytes
+no_other kind (m0 ∷ m1 ∷ m2 ∷ m3 ∷ k ∷ a0 ∷ a1 ∷ a2 ∷ a3 ∷ b0 ∷ b1 ∷ b2 ∷ b3 ∷ c0 ∷ c1 ∷ c2 ∷ c3 ∷ d0 ∷ d1 ∷ d2 ∷ d3 ∷ rest) bound h =
+    let p = passes kind (m0 ∷ m1 ∷ m2 ∷ m3 ∷ k ∷ a0 ∷ a1 ∷ a2 ∷ a3 ∷ b0 ∷ b1 ∷ b2 ∷ b3 ∷ c0 ∷ c1 ∷ c2 ∷ c3 ∷ d0 ∷ d1 ∷ d2 ∷ d3 ∷ rest) h in
+    let letters = begins m0 m1 m2 m3 _ p.magic in
+    let byte = kind_told kind (m0 ∷ m1 ∷ m2 ∷ m3 ∷ k ∷ a0 ∷ a1 ∷ a2 ∷ a3 ∷ b0 ∷ b1 ∷ b2 ∷ b3 ∷ c0 ∷ c1 ∷ c2 ∷ c3 ∷ d0 ∷ d1 ∷ d2 ∷ d3 ∷ rest) (omega arith) p.same_kind in
+    let x = bound.1.1.1.1.1 in
+    let y = x.1.1.1.1 in
+    let w = y.1.1.1.1 in
+    let t = w.1.1.1.1 in
+    rw (letters.0, letters.1, letters.2, letters.3)
+    (joined (kind_byte kind) k _ (a0 ∷ a1 ∷ a2 ∷ a3 ∷ []) _ (b0 ∷ b1 ∷ b2 ∷ b3 ∷ []) _ (c0 ∷ c1 ∷ c2 ∷ c3 ∷ []) _ (d0 ∷ d1 ∷ d2 ∷ d3 ∷ []) rest (sym byte)
+    (four_back a0 a1 a2 a3 x.0 x.1.0 x.1.1.0 x.1.1.1.0) (four_back b0 b1 b2 b3 y.0 y.1.0 y.1.1.0 y.1.1.1.0)
+    (plain_back c0 c1 c2 c3 w.0 w.1.0 w.1.1.0 w.1.1.1.0) (plain_back d0 d1 d2 d3 t.0 t.1.0 t.1.1.0 t.1.1.1.0))
+no_other kind bytes bound h = let long = (long_enough bytes (passes kind bytes h).whole).0 in absurd (omega (arith, long))

@@ -1,4 +1,6 @@
 ghost use Rattle.std.specs.Prelude.{◌≡◌, ℕ, ◌+◌, ◌*◌, ◌<◌, ◌≤◌, ◌^◌, List, length, drop, IfOk, IfErr, OnOk, None, false};
+ghost use Rattle.std.specs.Simd.Lanes.{Each1};
+ghost use Rattle.xs_rawfile.specs.declared.drawing.RawKind.{RawKind as Kind};
 ghost use Rattle.xs_rawfile.specs.Raw.{Raw, IsRaw};
 ghost use Rattle.xs_rawfile.specs.Level.{Reports, level_bytes, raw_of, first_fault, number_at, lacks_magic, has_unknown_kind, has_other_kind, has_wrong_side, has_wrong_place, has_wrong_length};
 ghost use Rattle.xs_rawfile.specs.Pixels.{unmultiplied_fault};
@@ -58,10 +60,12 @@ pub fn write_level(alloc: Global, d: &Drawing) -> Result<Vec<u8>, Memory>
     Ok(bytes)
 }
 
-/// The format of level files: the file of each drawing has no fault, and holds that drawing.
+/// The format of level files: the file of each drawing has no fault and holds that drawing, and a
+/// file without a fault is the file of the drawing that it holds.
 pub fn level_format()
     ensures accepted { (d : Raw) → IsRaw d → first_fault d.kind (level_bytes d) ≡ None }
     ensures read_back { (d : Raw) → IsRaw d → raw_of d.kind (level_bytes d) ≡ d }
+    ensures no_other { (kind : Kind) (bytes : List ℕ) → Each1 (λ b. b < 256) bytes → first_fault kind bytes ≡ None → level_bytes (raw_of kind bytes) ≡ bytes }
 {}
 
 /// The first fault of a file of a level of this kind.

@@ -6,3 +6,6 @@ returns-clause-accepted c = laws.accepted
 
 pub returns-clause-read_back : goal.returns-clause-read_back
 returns-clause-read_back c = laws.read_back
+
+pub returns-clause-no_other : goal.returns-clause-no_other
+returns-clause-no_other c = laws.no_other
