@@ -1,6 +1,7 @@
 ghost use Rattle.std.specs.Prelude.{◌≡◌, ℕ, ◌+◌, ◌-◌, ◌*◌, ◌<◌, ◌≤◌, ◌↔◌, min, length, slice_index_or, IfOk, IsErrOf};
 ghost use Rattle.std.specs.Simd.Lanes.{Each1};
 ghost use Rattle.xs_pixel.specs.Channels.{clear, IsPixel};
+ghost use Rattle.xs_palette.specs.Styles.{written, style_of};
 ghost use Rattle.xs_pixel.specs.Rows.{pixels};
 
 use crate::fault::PaletteFault;
@@ -36,8 +37,6 @@ impl Model for Palette {
 }
 
 impl Palette {
-    ghost use Rattle.xs_palette.specs.Styles.{written, style_of};
-
     /// The palette with these styles, numbered from 0. The pixel of style 0 is clear, whatever is
     /// written for it.
     pub fn from_styles(alloc: Global, styles: &[Style]) -> Result<Palette, PaletteFault>
@@ -77,8 +76,6 @@ impl Palette {
         self.table.as_slice()
     }
 }
-
-ghost use Rattle.xs_palette.specs.Styles.{written, style_of};
 
 /// The pixel that a palette with these styles shows for a number.
 fn shown(styles: &[Style], id: usize) -> Pixel
