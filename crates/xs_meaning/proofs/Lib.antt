@@ -1,0 +1,15 @@
+pub mod Agree
+pub mod Lists
+pub mod Tints
+pub mod KeyLemmas
+pub mod Blurs
+pub mod DrawingPixels
+pub mod Vanishing
+pub mod SameValue
+pub mod Depth
+pub mod Offsets
+pub mod LeafOffsets
+pub mod ExtentLemmas
+pub mod Canonical
+pub mod Filters
+pub mod OwnDrawings
