@@ -1,0 +1,4 @@
+pub mod Marks
+pub mod KeysInForce
+pub mod ShownStyles
+pub mod SameTints

@@ -1,0 +1,74 @@
+ghost use Rattle.std.specs.Prelude.{◌≡◌, ℕ, ◌<◌, All, false, length, slice_index_or, IfOk};
+ghost use Rattle.xs_scene.specs.Ranges.{IsFiltered};
+ghost use Rattle.xs_meaning.specs.Palettes.{none_dropped, is_listed};
+ghost use Rattle.xs_tint.specs.Filters.{dropped_by, filtering};
+
+use std::alloc::Global;
+use std::marker::Model;
+use xs_pixel::{List, Memory};
+
+/// How many styles a filter can name: those whose number is less.
+pub const NAMEABLE: usize = 4096;
+
+/// The styles that filters on the way to a drawing have dropped: these are clear there. Contracts see
+/// it as one flag for each style from 0 on, in which `dropped_by` looks one up.
+#[derive(Debug, Drop)]
+pub struct Dropped {
+    flags: Vec<bool>,
+}
+
+impl Model for Dropped {
+    ghost use Rattle.std.specs.Prelude.{◌≡◌, List, Bool, length};
+
+    ghost Value = { List Bool };
+
+    ghost view = { λ d. d.flags.items };
+
+    ghost invariant = { λ d. length d.flags.items ≡ 4096 };
+}
+
+impl Dropped {
+    /// No style is dropped.
+    pub fn none(alloc: Global) -> Result<Dropped, Memory>
+        ensures { IfOk result (λ d. dropped_by d ≡ none_dropped) }
+    {
+        Ok(Dropped {
+            flags: vec![in alloc; false; NAMEABLE]?,
+        })
+    }
+
+    /// What is dropped below a filter of these styles: with `keep` each style that is not listed, else
+    /// each listed one, and in either case what was dropped already.
+    pub fn with(&self, alloc: Global, keep: bool, styles: &List<u32>) -> Result<Dropped, Memory>
+        requires { All IsFiltered styles.now }
+        ensures { IfOk result (λ d. dropped_by d ≡ filtering keep styles.now (dropped_by self.now)) }
+    {
+        let was = self.flags.as_slice();
+        let mut flags = marks(alloc, styles.items())?;
+        for id in 0..NAMEABLE {
+            flags[id] = was[id] || flags[id] != keep;
+        }
+        Ok(Dropped { flags })
+    }
+
+    /// Whether a style is dropped.
+    pub fn has(&self, id: u32) -> bool
+        ensures { result ≡ dropped_by self.now id }
+    {
+        let id = id as usize;
+        id < NAMEABLE && self.flags[id]
+    }
+}
+
+/// A flag for each style that a filter can name: whether it is one of these.
+fn marks(alloc: Global, styles: &[u32]) -> Result<Vec<bool>, Memory>
+    requires { All IsFiltered styles.now }
+    ensures len { IfOk result (λ marks. length marks.items ≡ 4096) }
+    ensures listed { IfOk result (λ marks. (k : ℕ) → k < 4096 → slice_index_or marks.items k false ≡ is_listed styles.now k) }
+{
+    let mut marks = vec![in alloc; false; NAMEABLE]?;
+    for style in styles {
+        marks[*style as usize] = true;
+    }
+    Ok(marks)
+}
