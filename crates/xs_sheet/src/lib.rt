@@ -1,0 +1,13 @@
+//! What an exposure sheet says of one row: what a column shows, and where a peg is. Both go through
+//! their lists from the start, and take no memory.
+#![tactic(auto)]
+
+pub mod cells;
+pub mod keys;
+pub mod pegs;
+
+pub use cells::cell;
+pub use pegs::place;
+
+#[cfg(test)]
+mod tests;
