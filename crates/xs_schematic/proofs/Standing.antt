@@ -1,0 +1,95 @@
+-- What stands in an order
+use Rattle.std.proofs.Common.{◌≡◌, ◌≢◌, ℕ, zero, suc, ◌+◌, ◌<◌, ◌≤◌, Bool, true, false, ◌||◌, cond, eqb, length, take, get_or, List, [], ◌∷◌, ◌++◌, All, AllPairs, Contains, refl, sym, ap, ◌∙◌, subst, ⊎_elim, arith}
+use Rattle.std.specs.List.{list_any, AllByRecursion as Each}
+use Rattle.std.proofs.lemmas.Bool.{eqb-true, eq-eqb, both_ways, cases_Bool, cases_lt}
+use Rattle.std.proofs.lemmas.List.{get_or_default, get_or_append_left, get_or_at, take_at, take-append-le, length_push}
+use Rattle.std.proofs.lemmas.List.Elements.{All-push, Contains-push, Contains-append_left}
+use Rattle.std.proofs.lemmas.List.Folds.{list_any_at}
+use Rattle.std.proofs.lemmas.List.Quantifiers.{all_pairs_push}
+use Rattle.xs_scene.specs.declared.node.Node.{Node}
+use Rattle.xs_meaning.proofs.Lists.{by_test}
+use Rattle.xs_schematic.specs.Visits.{inputs_in, stands_in, put_last, visit_all}
+
+stands_first :
+    (x : ℕ) (xs : List ℕ) (n : ℕ) (b : Bool) → eqb x n ≡ b → (b || stands_in xs n) ≡ true
+    → (stands_in xs n ≡ true → Contains xs n) → Contains (x ∷ xs) n
+stands_first x xs n true same stands rest = (0, omega arith, eqb-true x n same)
+stands_first x xs n false same stands rest = let at = rest stands in (suc at.0, omega (arith, at.1), at.2)
+
+pub Contains-stands : (order : List ℕ) (n : ℕ) → stands_in order n ≡ true → Contains order n
+Contains-stands [] n stands = cc
+Contains-stands (x ∷ xs) n stands = stands_first x xs n (eqb x n) refl stands (Contains-stands xs n)
+
+pub stands-Contains : (order : List ℕ) (n : ℕ) → stands_in order n ≡ false → Contains order n → ⊥
+stands-Contains order n fails at =
+    both_ways (stands_in order n) fails (list_any_at (λ m. eqb m n) order at.0 n at.1 (eq-eqb (get_or order at.0 n) n at.2))
+
+-- an order so far: nodes of the sheet, each once, each after its inputs
+pub record IsBegun (nodes : List Node) (order : List ℕ) : Type 0 where
+  pub below : All (λ n. n < length nodes) order
+  pub once : AllPairs (λ m n. m ≢ n) order
+  pub after : (i : ℕ) → i < length order → All (Contains (take i order)) (inputs_in nodes (get_or order i 0))
+
+pub IsBegun-nil : (nodes : List Node) → IsBegun nodes []
+IsBegun-nil nodes =
+    record { below = λ k d lt. absurd (omega arith); once = λ i j d lt long. absurd (omega arith); after = λ i lt. absurd (omega arith) }
+
+pub IsBegun-push :
+    (nodes : List Node) (order : List ℕ) (n : ℕ) → n < length nodes → (Contains order n → ⊥)
+    → All (Contains order) (inputs_in nodes n) → IsBegun nodes order → IsBegun nodes (order ++ n ∷ [])
+IsBegun-push nodes order n node new inputs begun =
+    record {
+      below = All-push (λ n. n < length nodes) order n begun.below node;
+      once = all_pairs_push (λ m n. m ≢ n) order n begun.once
+          (λ k d lt same. new (k, lt, get_or_default order k n d lt ∙ same));
+      after = λ i lt. ⊎_elim (earlier i) (λ past. last i (omega (arith, length_push order n))) (cases_lt i (length order));
+    }
+  where
+    P : ℕ → List ℕ → ℕ → Type 0
+    P i front m = All (Contains front) (inputs_in nodes m)
+
+    earlier : (i : ℕ) → i < length order → All (Contains (take i (order ++ n ∷ []))) (inputs_in nodes (get_or (order ++ n ∷ []) i 0))
+    earlier i lt =
+        subst (λ (m : ℕ). All (Contains (take i (order ++ n ∷ []))) (inputs_in nodes m)) (sym (get_or_append_left order (n ∷ []) 0 i lt))
+        (subst (λ (front : List ℕ). All (Contains front) (inputs_in nodes (get_or order i 0))) (sym (take-append-le i order (n ∷ []) (omega arith))) (begun.after i lt))
+
+    last : (i : ℕ) → length order ≡ i → All (Contains (take i (order ++ n ∷ []))) (inputs_in nodes (get_or (order ++ n ∷ []) i 0))
+    last i at =
+        subst (λ (m : ℕ). All (Contains (take i (order ++ n ∷ []))) (inputs_in nodes m)) (sym (get_or_at order n [] 0 i at))
+        (subst (λ (front : List ℕ). All (Contains front) (inputs_in nodes n)) (sym (take_at order (n ∷ []) i at)) inputs)
+
+abbrev pub Keeps : List ℕ → List ℕ → Type 0
+Keeps old new = (x : ℕ) → Contains old x → Contains new x
+
+-- after a visit to a node the order has it, and keeps all that it had
+pub record IsVisited (nodes : List Node) (old : List ℕ) (n : ℕ) (new : List ℕ) : Type 0 where
+  pub begun : IsBegun nodes new
+  pub keeps : Keeps old new
+  pub has : Contains new n
+
+pub IsVisited-put_last :
+    (nodes : List Node) (order : List ℕ) (n : ℕ) → n < length nodes → All (Contains order) (inputs_in nodes n)
+    → IsBegun nodes order → IsVisited nodes order n (put_last n order)
+IsVisited-put_last nodes order n node inputs begun =
+    by_test (IsVisited nodes order n) (stands_in order n) order (order ++ n ∷ [])
+    (λ stands. record { begun = begun; keeps = λ x at. at; has = Contains-stands order n stands })
+    (λ fails. record {
+      begun = IsBegun-push nodes order n node (stands-Contains order n fails) inputs begun;
+      keeps = λ x at. Contains-append_left order (n ∷ []) x at;
+      has = Contains-push order n;
+    })
+
+pub record AreVisited (nodes : List Node) (old : List ℕ) (ns : List ℕ) (new : List ℕ) : Type 0 where
+  pub begun : IsBegun nodes new
+  pub keeps : Keeps old new
+  pub has : Each (Contains new) ns
+
+pub AreVisited-visit_all :
+    (nodes : List Node) (P : ℕ → Type 0) (visit : ℕ → List ℕ → List ℕ)
+    → ((n : ℕ) → P n → (order : List ℕ) → IsBegun nodes order → IsVisited nodes order n (visit n order))
+    → (ns : List ℕ) → Each P ns → (order : List ℕ) → IsBegun nodes order → AreVisited nodes order ns (visit_all visit ns order)
+AreVisited-visit_all nodes P visit step [] each order begun = record { begun = begun; keeps = λ x at. at; has = tt }
+AreVisited-visit_all nodes P visit step (n ∷ ns) each order begun =
+    let first = step n each.0 order begun in
+    let rest = AreVisited-visit_all nodes P visit step ns each.1 (visit n order) first.begun in
+    record { begun = rest.begun; keeps = λ x at. rest.keeps x (first.keeps x at); has = (rest.keeps n first.has, rest.has) }
