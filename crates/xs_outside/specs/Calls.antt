@@ -1,20 +1,17 @@
-use Rattle.std.specs.Prelude.{◌≡◌, ℕ, ◌+◌, ◌-◌, ◌^◌, min, List, Contains}
+use Rattle.std.specs.Prelude.{◌≡◌, ℕ, List, Contains}
 use Rattle.xs_outside.specs.declared.library.Fetched.{Fetched}
 use Rattle.xs_outside.specs.declared.library.Fetched.TheVariants as fetched
 use Rattle.xs_outside.specs.declared.shelf.Put.{Put}
 use Rattle.xs_outside.specs.declared.shelf.Put.TheVariants as put
 use Rattle.xs_outside.specs.declared.notes.Noted.{Noted}
 use Rattle.xs_outside.specs.declared.notes.Noted.TheVariants as noted
+use Rattle.xs_outside.specs.Counts.{counted}
 
 -- the numbers of the calls that fail, how many calls were made, and how many faults there were
 pub record CallsRecord : Type 0 where
   pub fails : List ℕ
   pub made : ℕ
   pub faults : ℕ
-
--- one more, but a count stands still at its last value
-abbrev pub counted : ℕ → ℕ
-counted count = min (count + 1) (2 ^ 64 - 1)
 
 -- the next call is one of those that fail
 abbrev pub IsFailing : CallsRecord → Type 0

@@ -1,5 +1,6 @@
 ghost use Rattle.std.specs.Prelude.{◌≡◌, ◌≤◌, ◌↔◌, IsTrue};
-ghost use Rattle.xs_outside.specs.Calls.{IsFailing, counted, passed};
+ghost use Rattle.xs_outside.specs.Counts.{counted};
+ghost use Rattle.xs_outside.specs.Calls.{IsFailing, passed};
 
 use std::marker::Model;
 

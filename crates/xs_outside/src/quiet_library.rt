@@ -1,7 +1,8 @@
 ghost use Rattle.std.specs.Prelude.{◌≡◌, ◌≤◌, None};
 ghost use Rattle.xs_outside.specs.Told.{Rose};
 ghost use Rattle.xs_outside.specs.Answers.{IsFetched, IsAsked};
-ghost use Rattle.xs_outside.specs.Quiet.{inner_of, faults_of, IsCounted};
+ghost use Rattle.xs_outside.specs.Counts.{CountsFetch};
+ghost use Rattle.xs_outside.specs.Quiet.{inner_of, faults_of};
 
 use crate::library::{Fetched, Library};
 use std::alloc::Global;
@@ -31,6 +32,7 @@ impl<L: Library> QuietLibrary<L> {
     }
 }
 
+#[tactic(auto, using(crate::proofs::Growth::asked_untold))]
 impl<L: Library> Library for QuietLibrary<L> {
     ghost files = { λ _. None };
 
@@ -48,7 +50,7 @@ impl<L: Library> Library for QuietLibrary<L> {
             (Rose (L.faults (inner_of self.old)) (L.faults (inner_of self.new))) result }
         ensures inner_asked { IsAsked (L.asked (inner_of self.old)) (L.asked (inner_of self.new)) name.now result }
         ensures inner_same { L.files (inner_of self.new) ≡ L.files (inner_of self.old) }
-        ensures counts { IsCounted (faults_of self.old) (faults_of self.new) result }
+        ensures counts { CountsFetch (faults_of self.old) (faults_of self.new) result }
     {
         let answer = self.inner.get(alloc, name, limit);
         match &answer {
