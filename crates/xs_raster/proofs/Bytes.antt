@@ -1,0 +1,34 @@
+-- Laws of bytes as pixels and back.
+use Rattle.std.proofs.Common.{◌≡◌, ℕ, zero, suc, ◌+◌, ◌-◌, ◌*◌, List, [], ◌∷◌, length, replicate, refl, ap, arith}
+use Rattle.std.specs.Simd.Lanes.{Each1}
+use Rattle.xs_pixel.specs.Channels.{Channels, IsPixel, clear}
+use Rattle.xs_pixel.specs.Rows.{pixels}
+use Rattle.xs_raster.specs.Bitmap.{bytes_of}
+
+pub pixels-bytes_of : (ps : List Channels) → pixels (bytes_of ps) ≡ ps
+pixels-bytes_of [] = refl
+pixels-bytes_of (p ∷ ps) = ap (λ rest. p ∷ rest) (pixels-bytes_of ps)
+
+pub length-bytes_of : (ps : List Channels) → length (bytes_of ps) ≡ 4 * length ps
+length-bytes_of [] = refl
+length-bytes_of (p ∷ ps) = let rest = length-bytes_of ps in omega arith
+
+pub bytes_of-pixels : (n : ℕ) (xs : List ℕ) → length xs ≡ 4 * n → bytes_of (pixels xs) ≡ xs
+bytes_of-pixels n [] whole = refl
+bytes_of-pixels n (r ∷ []) whole = absurd (omega arith)
+bytes_of-pixels n (r ∷ g ∷ []) whole = absurd (omega arith)
+bytes_of-pixels n (r ∷ g ∷ b ∷ []) whole = absurd (omega arith)
+bytes_of-pixels n (r ∷ g ∷ b ∷ m ∷ xs) whole = ap (λ rest. r ∷ g ∷ b ∷ m ∷ rest) (bytes_of-pixels (n - 1) xs (omega arith))
+
+-- bytes that are all 0 are clear pixels
+pub pixels-replicate : (m n : ℕ) → m ≡ 4 * n → pixels (replicate m 0) ≡ replicate n clear
+pixels-replicate zero zero e = refl
+pixels-replicate zero (suc n) e = absurd (omega arith)
+pixels-replicate (suc zero) n e = absurd (omega arith)
+pixels-replicate (suc (suc zero)) n e = absurd (omega arith)
+pixels-replicate (suc (suc (suc zero))) n e = absurd (omega arith)
+pixels-replicate (suc (suc (suc (suc m)))) zero e = absurd (omega arith)
+pixels-replicate (suc (suc (suc (suc m)))) (suc n) e = ap (λ ps. clear ∷ ps) (pixels-replicate m n (omega arith))
+
+pub clear_is_pixel : IsPixel clear
+clear_is_pixel = record { red = omega arith; green = omega arith; blue = omega arith; top = omega arith }

@@ -1,0 +1,4 @@
+pub mod Bytes
+pub mod Pasting
+pub mod Places
+pub mod Points

@@ -1,0 +1,24 @@
+use Rattle.std.proofs.Common.{ap, w32, ◌-ℤ◌, arith, refl}
+use Rattle.std.proofs.lemmas.Int.{ints, to_z-of_z}
+use Rattle.xs_pixel.specs.Picture.{place_in_box}
+use Rattle.xs_rect.proofs.Areas.{unwrapped}
+use Rattle.xs_raster.specs.Bitmap.{Bitmap}
+use Rattle.xs_raster.proofs.Points.{place_fits}
+use Rattle.xs_raster.proofs.raster.Raster.place.Goals as goal
+
+pub returns-clause-value : goal.returns-clause-value
+unfolding place_in_box
+returns-clause-value c =
+    let x = to_z-of_z w32 c.args.x c.ranges.x in
+    let y = to_z-of_z w32 c.args.y c.ranges.y in
+    let left = unwrapped c.x.result (omega (arith, ints)) (omega (arith, ints)) in
+    let low = unwrapped c.y.result (omega (arith, ints)) (omega (arith, ints)) in
+    let rows = rw (y, low) at c.abs_diff-rows.ensures in
+    let columns = rw (x, left) at c.abs_diff-columns.ensures in
+    rw (← c.self.view_is, rows, columns, c.w.ensures.value, c.x.ensures.value, c.y.ensures.value)
+
+pub returns-clause-bound : goal.returns-clause-bound
+returns-clause-bound c =
+    let value = returns-clause-value c in
+    let fits = place_fits c.args.self.now.area c.args.x c.args.y 0 c.requires.across c.requires.up in
+    omega (arith, value, fits)

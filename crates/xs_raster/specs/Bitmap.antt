@@ -1,0 +1,40 @@
+use Rattle.std.specs.Prelude.{◌≡◌, ℕ, ◌*◌, ℤ, List, [], ◌∷◌, length, slice_index_or}
+use Rattle.std.specs.Simd.Lanes.{Each1, chunk}
+use Rattle.xs_pixel.specs.Channels.{Channels, IsPixel, clear}
+use Rattle.xs_pixel.specs.Picture.{place_in_box}
+use Rattle.xs_pixel.specs.Rows.{pixels as pixels_in}
+use Rattle.xs_rect.specs.Area.{Area}
+
+-- an area and its pixels, in rows from the lowest up and each from left to right
+pub record Bitmap : Type 0 where
+  pub area : Area
+  pub pixels : List Channels
+
+abbrev pub bitmap : Area → List Channels → Bitmap
+bitmap area pixels = record { area = area; pixels = pixels }
+
+-- the bytes hold the pixels of the area
+pub record IsRaster (area : Area) (bytes : List ℕ) : Type 0 where
+  pub whole : length bytes ≡ 4 * (area.w * area.h)
+  pub premultiplied : Each1 IsPixel (pixels_in bytes)
+
+-- the four bytes of each pixel
+abbrev pub bytes_of : List Channels → List ℕ
+bytes_of [] = []
+bytes_of (p ∷ ps) = p.r ∷ p.g ∷ p.b ∷ p.m ∷ bytes_of ps
+
+-- how many pixels of an area come before the one at a point
+abbrev pub place_of : Area → ℤ → ℤ → ℕ
+place_of a x y = place_in_box a.x a.y a.w x y
+
+-- the pixel at a point of the area
+abbrev pub pixel_of : Bitmap → ℤ → ℤ → Channels
+pixel_of r x y = slice_index_or r.pixels (place_of r.area x y) clear
+
+-- the row of pixels with this y
+abbrev pub row_of : Bitmap → ℤ → List Channels
+row_of r y = chunk (place_of r.area r.area.x y) r.area.w r.pixels
+
+-- the pixels at the places of another area's row with this y
+abbrev pub part_of : Bitmap → Area → ℤ → List Channels
+part_of r c y = chunk (place_of r.area c.x y) c.w r.pixels

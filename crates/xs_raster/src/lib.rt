@@ -1,0 +1,23 @@
+//! Rasters: rectangles of premultiplied pixels, and the numbered tiles that are shared by reference.
+//! Rows go from the lowest up, and each from left to right.
+#![tactic(auto)]
+
+pub mod raster;
+pub mod tile;
+pub mod tile_ref;
+
+pub use raster::Raster;
+pub use tile::Tile;
+pub use tile_ref::TileRef;
+
+/// Rasters, tiles and references to tiles may be sent to another thread, and shared with it.
+pub fn rasters_cross_threads() {
+    crosses_threads::<Raster>();
+    crosses_threads::<Tile>();
+    crosses_threads::<TileRef>();
+}
+
+fn crosses_threads<T: Send + Sync>() {}
+
+#[cfg(test)]
+mod tests;
