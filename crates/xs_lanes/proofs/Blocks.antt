@@ -1,7 +1,7 @@
 -- What the operations do to whole pixels of bytes, four lanes for each.
-use Rattle.std.proofs.Common.{◌≡◌, ℕ, ◌+◌, ◌-◌, ◌*◌, ◌%◌, ◌≤◌, zero, suc, min, List, [], ◌∷◌, length, map, refl, ap, ◌∙◌, arith}
+use Rattle.std.proofs.Common.{◌≡◌, ℕ, ◌+◌, ◌-◌, ◌*◌, ◌%◌, ◌≤◌, zero, suc, min, List, [], ◌∷◌, length, map, refl, ap, arith}
 use Rattle.std.specs.Simd.Lanes.{Each1, zip2}
-use Rattle.xs_pixel.specs.Channels.{Channels, channels, IsPixel}
+use Rattle.xs_pixel.specs.Channels.{channels, IsPixel}
 use Rattle.xs_pixel.specs.Rows.{pixels}
 use Rattle.xs_pixel.specs.Operations.{product, by_channel, faded_of, over_of, sub_of, matte_in_of, matte_out_of}
 use Rattle.xs_pixel.proofs.StaysPixel.{IsPixel-over_of}

@@ -1,5 +1,5 @@
 -- What the lanes of a comparison choose: the lesser, the greater, sums and differences that stop at a bound.
-use Rattle.std.proofs.Common.{◌≡◌, ℕ, ◌+◌, ◌-◌, ◌%◌, ◌^◌, ◌≤◌, Bool, not, cond, eqb, ltb, min, max, List, [], ◌∷◌, length, map, refl, ap, ◌∙◌, arith}
+use Rattle.std.proofs.Common.{◌≡◌, ℕ, ◌+◌, ◌-◌, ◌%◌, ◌^◌, not, cond, eqb, ltb, min, max, List, [], ◌∷◌, length, map, refl, arith}
 use Rattle.std.specs.Simd.Lanes.{Each1, zip2}
 use lib.Lanes.{sel_l, mask_l}
 use mir.Syntax.{w8}

@@ -56,13 +56,6 @@ mixes_fit tones inks paints tl il pl ft fi fp =
     subst (λ (ms : List ℕ). Each1 (Fits w8) ms) (sym (mixes_are tones inks paints tl il pl ft fi fp))
     (Each1-mixes tones inks paints ft fi fp)
 
-pub length-mixes_of : (tones inks paints : List ℕ) → length inks ≡ length tones → length paints ≡ length tones → length (mixes_of tones inks paints) ≡ length tones
-length-mixes_of [] inks paints il pl = refl
-length-mixes_of (t ∷ tones) [] paints il pl = absurd (omega arith)
-length-mixes_of (t ∷ tones) (i ∷ inks) [] il pl = absurd (omega arith)
-length-mixes_of (t ∷ tones) (i ∷ inks) (p ∷ paints) il pl =
-    let later = length-mixes_of tones inks paints (omega arith) (omega arith) in omega (arith, later)
-
 -- a mix of pixels by a tone that stands in the lowest byte of a word
 mix_is : (style : ℕ → Channels) (w t : ℕ) (ink paint : Channels) → tone_of w ≡ t → ink ≡ style (ink_of w) → paint ≡ style (paint_of w) → channels (mixed t ink.r paint.r) (mixed t ink.g paint.g) (mixed t ink.b paint.b) (mixed t ink.m paint.m) ≡ colour_under style w
 mix_is style w t ink paint tone is_ink is_paint = rw (is_ink, is_paint, ← tone) refl

@@ -1,5 +1,5 @@
 -- The steps of loops that make the pixels of a row in order.
-use Rattle.std.proofs.Common.{◌≡◌, ℕ, ◌+◌, ◌-◌, ◌*◌, ◌/◌, ◌≤◌, zero, suc, List, [], ◌∷◌, ◌++◌, length, take, drop, refl, sym, ap, ◌∙◌, arith}
+use Rattle.std.proofs.Common.{◌≡◌, ℕ, ◌+◌, ◌*◌, ◌≤◌, zero, suc, List, [], ◌∷◌, ◌++◌, length, take, drop, refl, sym, ap, ◌∙◌, arith}
 use Rattle.std.specs.Simd.Lanes.{zip2, chunk, put_chunk}
 use Rattle.std.proofs.Math.Seq.{take-add}
 use Rattle.std.proofs.lemmas.List.{length-take-le, take_all}
@@ -8,10 +8,6 @@ use Rattle.xs_pixel.specs.Channels.{Channels}
 use Rattle.xs_pixel.specs.Rows.{pixels}
 use Rattle.xs_pixel.proofs.Rows.{pixels-append, pixels-chunk}
 use Rattle.xs_lanes.specs.Done.{Done}
-
--- nothing is done at the start
-pub done_none : (wanted : List Channels) (row : List ℕ) → Done wanted row 0
-done_none wanted row = record { count = 0; whole = refl; within = omega arith; so_far = refl }
 
 -- n pixels more, written at i
 pub done_more : (wanted : List Channels) (row results : List ℕ) (i m n : ℕ) (done : Done wanted row i) → m ≡ 4 * n → i + m ≤ length row → length results ≡ m → pixels results ≡ chunk done.count n wanted → Done wanted (put_chunk i row results) (i + m)

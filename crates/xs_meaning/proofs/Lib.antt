@@ -3,6 +3,7 @@ pub mod Lists
 pub mod Tints
 pub mod SheetRanges
 pub mod KeyLemmas
+pub mod ChosenKeys
 pub mod Blurs
 pub mod DrawingPixels
 pub mod Vanishing

@@ -50,23 +50,23 @@ on_line-between n from to done whole le positive start end =
     between : (part : ℤ) → IsPart (to -ℤ from) part → IsBetween n (from +ℤ part)
     between part is = ⊎_elim (λ h. (omega (arith, ints), omega (arith, ints))) (λ h. (omega (arith, ints), omega (arith, ints))) is
 
-abbrev IsKeyBefore : ℕ → PegKeyRecord → Type 0
-IsKeyBefore row k = IsPegKey k × (k.row ≤ row)
+abbrev IsKeyUpTo : ℕ → PegKeyRecord → Type 0
+IsKeyUpTo row k = IsPegKey k × (k.row ≤ row)
 
-abbrev IsKeyAfter : ℕ → PegKeyRecord → Type 0
-IsKeyAfter row k = IsPegKey k × (row < k.row)
+abbrev IsKeyBeyond : ℕ → PegKeyRecord → Type 0
+IsKeyBeyond row k = IsPegKey k × (row < k.row)
 
-key_in_force-is : (keys : List PegKeyRecord) (row : ℕ) → All IsPegKey keys → IfSome (key_in_force keys row) (IsKeyBefore row)
+key_in_force-is : (keys : List PegKeyRecord) (row : ℕ) → All IsPegKey keys → IfSome (key_in_force keys row) (IsKeyUpTo row)
 key_in_force-is keys row all =
-    latest-has (IsKeyBefore row) (λ k. k.row) (filter (λ k. nat_le k.row row) keys)
+    latest-has (IsKeyUpTo row) (λ k. k.row) (filter (λ k. nat_le k.row row) keys)
     (λ i d lt. (
       All-filter (λ k. nat_le k.row row) IsPegKey keys all i d lt,
       leb-true _ _ (filter_passes (λ k. nat_le k.row row) keys i d lt),
     ))
 
-key_after-is : (keys : List PegKeyRecord) (row : ℕ) → All IsPegKey keys → IfSome (key_after keys row) (IsKeyAfter row)
+key_after-is : (keys : List PegKeyRecord) (row : ℕ) → All IsPegKey keys → IfSome (key_after keys row) (IsKeyBeyond row)
 key_after-is keys row all =
-    earliest-has (IsKeyAfter row) (λ k. k.row) (filter (λ k. nat_lt row k.row) keys)
+    earliest-has (IsKeyBeyond row) (λ k. k.row) (filter (λ k. nat_lt row k.row) keys)
     (λ i d lt. (
       All-filter (λ k. nat_lt row k.row) IsPegKey keys all i d lt,
       ltb-true _ _ (filter_passes (λ k. nat_lt row k.row) keys i d lt),
@@ -83,7 +83,7 @@ origin-within n =
     within n (pos 0) (pos 0) (omega (arith, ints), omega (arith, ints)) (omega (arith, ints), omega (arith, ints))
 
 offset_by-within :
-    (a b : Option PegKeyRecord) (row : ℕ) → IfSome a (IsKeyBefore row) → IfSome b (IsKeyAfter row)
+    (a b : Option PegKeyRecord) (row : ℕ) → IfSome a (IsKeyUpTo row) → IfSome b (IsKeyBeyond row)
     → IsWithin 65536 (offset_by a b row)
 offset_by-within None b row first next = origin-within 65536
 offset_by-within (Some a) None row first next =

@@ -71,7 +71,8 @@ impl Palette {
         ensures whole { length result.now ≡ 4 * length self.now }
         ensures few { (0 < length self.now) × (length self.now ≤ MOST_STYLES + 1) }
         ensures valid { Each1 IsPixel self.now }
-        ensures look_up { (id : ℕ) → slice_index_or self.now (min id (length self.now - 1)) clear ≡ style_of self.now id }
+        ensures look_up { (id : ℕ)
+            → slice_index_or self.now (min id (length self.now - 1)) clear ≡ style_of self.now id }
     {
         self.table.as_slice()
     }

@@ -1,6 +1,6 @@
-use Rattle.std.proofs.Common.{length, sym, ap, ◌∙◌}
+use Rattle.std.proofs.Common.{◌∙◌}
 use Rattle.std.proofs.lemmas.List.{map-id}
-use Rattle.xs_lanes.proofs.Mixing.{mixes_are, mixes_fit, length-mixes_of}
+use Rattle.xs_lanes.proofs.Mixing.{mixes_are, mixes_fit}
 use Rattle.xs_lanes.proofs.cm32.mixes.Goals as goal
 
 pub overflow_cast-result : goal.overflow_cast-result

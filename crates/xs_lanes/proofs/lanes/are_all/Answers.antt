@@ -1,7 +1,6 @@
-use Rattle.std.proofs.Common.{◌≡◌, ◌≤◌, not, eqb, map, sym, ◌∙◌, arith}
+use Rattle.std.proofs.Common.{not, eqb, sym, ◌∙◌, arith}
 use Rattle.std.proofs.lemmas.Simd.{bitmask_splat}
 use Rattle.std.proofs.lemmas.Bool.Decides.{nat_tests}
-use lib.Lanes.{mask_l}
 use mir.Syntax.{w8}
 use Rattle.xs_lanes.proofs.Choices.{none_differs}
 use Rattle.xs_lanes.proofs.lanes.are_all.Goals as goal

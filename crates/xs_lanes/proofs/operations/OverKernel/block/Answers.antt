@@ -1,5 +1,5 @@
-use Rattle.std.proofs.Common.{◌≡◌, ◌+◌, ◌-◌, ◌%◌, map, ap, ◌∙◌}
-use Rattle.std.specs.Simd.Lanes.{Each1, zip2}
+use Rattle.std.proofs.Common.{◌+◌, ◌-◌, ◌%◌, map, ap, ◌∙◌}
+use Rattle.std.specs.Simd.Lanes.{zip2}
 use Rattle.xs_pixel.specs.Operations.{product}
 use Rattle.xs_pixel.specs.Rows.{pixels}
 use Rattle.xs_lanes.proofs.Blocks.{over_block, over_clear, over_opaque}

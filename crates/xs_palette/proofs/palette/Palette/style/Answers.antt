@@ -1,12 +1,10 @@
-use Rattle.std.proofs.Common.{◌≡◌, ℕ, ◌+◌, ◌-◌, ◌*◌, ◌≤◌, List, [], ◌∷◌, length, take, drop, get_or, min, refl, sym, ap, subst, ◌∙◌, arith}
-use Rattle.std.specs.Simd.Lanes.{Each1, chunk}
-use Rattle.std.proofs.lemmas.List.{take_rest, length-drop}
-use Rattle.std.proofs.lemmas.Simd.{Each1-chunk}
-use Rattle.xs_pixel.specs.Channels.{Channels, IsPixel, clear}
+use Rattle.std.proofs.Common.{◌≡◌, ◌+◌, ◌-◌, ◌*◌, [], ◌∷◌, length, take, drop, get_or, min, refl, sym, ap, ◌∙◌, arith}
+use Rattle.std.specs.Simd.Lanes.{chunk}
+use Rattle.std.proofs.lemmas.List.{take_rest}
+use Rattle.xs_pixel.specs.Channels.{IsPixel, clear}
 use Rattle.xs_pixel.specs.Rows.{pixels}
 use Rattle.xs_pixel.proofs.Rows.{length-pixels, pixel_of_chunk, chunk_of_pixels}
 use Rattle.xs_palette.specs.Styles.{style_of}
-use Rattle.xs_palette.specs.Table.{IsTable}
 use Rattle.xs_palette.proofs.LookUp.{look_up}
 use Rattle.xs_palette.proofs.palette.Palette.style.Goals as goal
 

@@ -1,4 +1,4 @@
-use Rattle.std.proofs.Common.{◌≡◌, ◌+◌, ◌-◌, length, ap, ◌∙◌, arith}
+use Rattle.std.proofs.Common.{◌+◌, length, ap, arith}
 use Rattle.xs_pixel.specs.Rows.{pixels}
 use Rattle.xs_pixel.proofs.Rows.{length-pixels}
 use Rattle.xs_palette.proofs.LookUp.{look_up_last}

@@ -1,0 +1,120 @@
+ghost use Rattle.std.specs.Prelude.{◌≡◌};
+ghost use Rattle.serde_json.specs.View.{view, members_view};
+ghost use Rattle.xs_json.specs.Reading.{Gives};
+ghost use Rattle.xs_scene.specs.Ranges.{IsKind};
+ghost use Rattle.std.specs.Prelude.{IfOk, OnOk};
+ghost use Rattle.xs_json.specs.Objects.{required_at};
+ghost use Rattle.xs_scene_json.specs.Fields.{field};
+ghost use Rattle.xs_scene_json.specs.SceneText.{is_cm32_at, kind_of};
+ghost use Rattle.xs_scene_json.specs.SceneData.{with_kind};
+
+use crate::element::Element;
+use crate::fields::{needed, none_of, reference_needed};
+use crate::written::{Written, put, put_number, put_text, write_list};
+use serde_json::{Map, Value};
+use std::alloc::Global;
+use xs_json::{Field, FieldFault, Path, Place, SceneCode, object, required};
+use xs_pixel::Memory;
+use xs_scene::{Kind, Level, Name};
+
+impl Element for Name {
+    ghost use Rattle.xs_scene_json.specs.SceneText.{name_at};
+
+    ghost reading = { λ _. name_at };
+
+    #[tactic(auto, unfolding(crate::specs::SceneText::name_at), using(crate::proofs::Names::is_name_holds, crate::proofs::Names::is_name_fails))]
+    fn read(alloc: Global, _format: u32, v: &Value, place: &Place) -> Result<Self, FieldFault> {
+        let text = String::from_str(alloc, place.text(alloc, v)?)?;
+        match Name::new(text) {
+            Some(name) => Ok(name),
+            None => Err(place.fault(alloc, SceneCode::OutOfRange)),
+        }
+    }
+}
+
+/// Whether a level's drawings are CM32, by the word at its kind.
+fn is_cm32(alloc: Global, map: &Map<String, Value>, at: &Path) -> Result<bool, FieldFault>
+    ensures { Gives (λ b. b) result (field Field.Kind is_cm32_at at.now (members_view map.now.entries)) }
+{
+    let v = required(alloc, map, at, Field::Kind)?;
+    let place = Place::key(at, Field::Kind);
+    match place.text(alloc, v)? {
+        "colour" => Ok(false),
+        "cm32" => Ok(true),
+        _ => Err(place.fault(alloc, SceneCode::OutOfRange)),
+    }
+}
+
+/// The kind of a level, with its palette.
+fn kind(alloc: Global, map: &Map<String, Value>, at: &Path, cm32: bool) -> Result<Kind, FieldFault>
+    ensures exact { Gives (λ k. k) result (kind_of cm32 at.now (members_view map.now.entries)) }
+    ensures range { IfOk result IsKind }
+{
+    if cm32 {
+        Ok(Kind::Cm32(reference_needed(alloc, map, at, Field::Palette)?))
+    } else {
+        none_of(alloc, map, at, SceneCode::UnknownKey, &[Field::Palette])?;
+        Ok(Kind::Colour)
+    }
+}
+
+impl Element for Level {
+    ghost use Rattle.xs_scene_json.specs.SceneText.{level_at};
+
+    ghost reading = { λ _. level_at };
+
+    #[tactic(auto, unfolding(crate::specs::SceneText::level_at))]
+    fn read(alloc: Global, format: u32, v: &Value, place: &Place) -> Result<Self, FieldFault> {
+        let at = place.path(alloc)?;
+        let map = object(
+            alloc,
+            v,
+            &at,
+            &[Field::Kind, Field::Palette, Field::Drawings],
+            &[Field::Kind, Field::Drawings],
+        )?;
+        let cm32 = is_cm32(alloc, map, &at)?;
+        Ok(Level {
+            kind: kind(alloc, map, &at, cm32)?,
+            drawings: needed(alloc, format, map, &at, Field::Drawings)?,
+        })
+    }
+}
+
+impl Written for Name {
+    ghost use Rattle.serde_json.specs.Data.{string};
+
+    ghost writing = { string };
+
+    fn write(&self, alloc: Global, _format: u32) -> Result<Value, Memory> {
+        Ok(Value::try_from_str(alloc, self.text())?)
+    }
+}
+
+/// Puts the kind of a level, with its palette.
+fn put_kind(map: &mut Map<String, Value>, alloc: Global, kind: Kind) -> Result<(), Memory>
+    ensures { OnOk result (members_view map.new.entries ≡ with_kind kind (members_view map.old.entries)) }
+{
+    match kind {
+        Kind::Colour => put_text(map, alloc, Field::Kind, "colour"),
+        Kind::Cm32(palette) => {
+            put_text(map, alloc, Field::Kind, "cm32")?;
+            put_number(map, alloc, Field::Palette, palette)
+        }
+    }
+}
+
+impl Written for Level {
+    ghost use Rattle.xs_scene_json.specs.SceneData.{level_data};
+
+    ghost writing = { level_data };
+
+    #[tactic(auto, unfolding(crate::specs::SceneData::level_data))]
+    fn write(&self, alloc: Global, format: u32) -> Result<Value, Memory> {
+        let mut map = Map::new(alloc);
+        put_kind(&mut map, alloc, self.kind)?;
+        let drawings = write_list(alloc, format, &self.drawings)?;
+        put(&mut map, alloc, Field::Drawings, drawings)?;
+        Ok(Value::from(map))
+    }
+}
