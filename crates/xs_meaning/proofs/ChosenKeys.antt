@@ -1,9 +1,10 @@
 -- The keys between which a peg stands at a row
-use Rattle.std.proofs.Common.{ℕ, ◌≡◌, ◌≤◌, ◌<◌, refl, nat_le, nat_lt, true, Option, Some, None, List, All, IfSome, Contains, MatchOption, filter, le-leb, lt-ltb, leb-true, ltb-true, ⊎_elim}
+use Rattle.std.proofs.Common.{ℕ, ◌≡◌, ◌≤◌, ◌<◌, refl, nat_le, nat_lt, true, Option, Some, None, List, All, IfSome, Contains, MatchOption, filter, le-leb, lt-ltb, leb-true, ltb-true, ⊎_elim, ap, lt_irrefl, lt_of_lt_of_le, le_antisymm}
 use Rattle.std.proofs.lemmas.Bool.{cases_lt}
-use Rattle.std.proofs.lemmas.List.Elements.{All-filter, All-weaker, All-contains_itself, filter_passes}
+use Rattle.std.proofs.lemmas.List.Elements.{All-filter, All-weaker, All-contains, All-contains_itself, filter_passes}
 use Rattle.xs_scene.specs.Records.{PegKeyRecord}
-use Rattle.xs_meaning.specs.Places.{key_in_force, key_after, IsKeyInForce, IsKeyAfter}
+use Rattle.xs_meaning.specs.Places.{key_in_force, key_after}
+use Rattle.xs_meaning.specs.Chosen.{IsKeyInForce, IsKeyAfter, HasDistinctRows}
 use Rattle.xs_meaning.proofs.KeyLemmas.{latest-has, earliest-has, latest-greatest, earliest-least, latest-none, earliest-none, filter-All, filter-none}
 
 begun : List PegKeyRecord → ℕ → List PegKeyRecord
@@ -71,3 +72,33 @@ key_after-is keys row =
               (λ k above lt. above (lt-ltb row k.row lt)) keys
               (filter-All (λ k. b.row ≤ k.row) (λ k. nat_lt row k.row) keys least);
         }
+
+-- where no two keys have the same row, only one key is the last
+
+pub key_in_force-only :
+    (keys : List PegKeyRecord) (row : ℕ) (a : PegKeyRecord) → HasDistinctRows keys → IsKeyInForce keys row a
+    → key_in_force keys row ≡ Some a
+key_in_force-only keys row a distinct is = same (key_in_force keys row) (key_in_force-is keys row)
+  where
+    same : (b : Option PegKeyRecord) → MatchOption b (All (λ k. row < k.row) keys) (IsKeyInForce keys row) → b ≡ Some a
+    same None later = absurd (lt_irrefl row (lt_of_lt_of_le (All-contains (λ k. row < k.row) keys a later is.among) is.begun))
+    same (Some b) chosen =
+        ap Some
+        (distinct b a chosen.among is.among
+        (le_antisymm
+        (All-contains (λ k. k.row ≤ row → k.row ≤ a.row) keys b is.last chosen.among chosen.begun)
+        (All-contains (λ k. k.row ≤ row → k.row ≤ b.row) keys a chosen.last is.among is.begun)))
+
+pub key_after-only :
+    (keys : List PegKeyRecord) (row : ℕ) (b : PegKeyRecord) → HasDistinctRows keys → IsKeyAfter keys row b
+    → key_after keys row ≡ Some b
+key_after-only keys row b distinct is = same (key_after keys row) (key_after-is keys row)
+  where
+    same : (a : Option PegKeyRecord) → MatchOption a (All (λ k. k.row ≤ row) keys) (IsKeyAfter keys row) → a ≡ Some b
+    same None earlier = absurd (lt_irrefl row (lt_of_lt_of_le is.later (All-contains (λ k. k.row ≤ row) keys b earlier is.among)))
+    same (Some a) chosen =
+        ap Some
+        (distinct a b chosen.among is.among
+        (le_antisymm
+        (All-contains (λ k. row < k.row → a.row ≤ k.row) keys b chosen.first is.among is.later)
+        (All-contains (λ k. row < k.row → b.row ≤ k.row) keys a is.first chosen.among chosen.later)))

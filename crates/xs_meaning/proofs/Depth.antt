@@ -84,7 +84,7 @@ SeenHas P Empty = Unit {0}
 SeenHas P (Drawing level index) = Unit {0}
 SeenHas P (Row sheet row) = P sheet
 
-find-has : {X : Type 0} (P : X → Type 0) (test : X → Bool) (xs : List X) → All P xs → IfSome (find test xs) P
+pub find-has : {X : Type 0} (P : X → Type 0) (test : X → Bool) (xs : List X) → All P xs → IfSome (find test xs) P
 find-has P test [] all = tt
 find-has P test (x ∷ xs) all =
     by_test (λ o. IfSome o P) (test x) (Some x) (find test xs)

@@ -18,4 +18,5 @@ pub mod ExtentLemmas
 pub mod Canonical
 pub mod SamePixels
 pub mod UnusedStyles
+pub mod ChosenCells
 pub mod OwnDrawings

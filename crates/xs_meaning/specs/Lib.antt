@@ -8,6 +8,7 @@ pub mod Walk
 pub mod Rows
 pub mod Expressions
 pub mod Extents
+pub mod Chosen
 pub mod Agreement
 pub mod Bounds
 pub mod Ends

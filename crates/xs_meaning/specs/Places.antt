@@ -1,4 +1,4 @@
-use Rattle.std.specs.Prelude.{ℕ, zero, suc, ◌-◌, ◌≤◌, ◌<◌, nat_le, nat_lt, Option, Some, None, ℤ, pos, ◌+ℤ◌, ◌-ℤ◌, ◌*ℤ◌, List, [], filter, All, Contains, slice_index_or, if◌then◌else◌}
+use Rattle.std.specs.Prelude.{ℕ, zero, suc, ◌-◌, nat_le, nat_lt, Option, Some, None, ℤ, pos, ◌+ℤ◌, ◌-ℤ◌, ◌*ℤ◌, List, [], filter, slice_index_or, if◌then◌else◌}
 use Rattle.std.specs.Int.{int_div_euclid}
 use Rattle.xs_scene.specs.Records.{PegRecord, PegKeyRecord, SheetRecord}
 use Rattle.xs_meaning.specs.Keys.{latest, earliest}
@@ -51,15 +51,3 @@ place_up (suc n) k (Some i) row =
 -- most 64 pegs. Without a peg it is (0, 0)
 abbrev pub place_of : SheetRecord → Option ℕ → ℕ → Point
 place_of k peg row = place_up 64 k peg row
-
--- a is the last of the keys at or before a row
-pub record IsKeyInForce (keys : List PegKeyRecord) (row : ℕ) (a : PegKeyRecord) : Type 0 where
-  pub among : Contains keys a
-  pub begun : a.row ≤ row
-  pub last : All (λ k. k.row ≤ row → k.row ≤ a.row) keys
-
--- b is the first of the keys after a row
-pub record IsKeyAfter (keys : List PegKeyRecord) (row : ℕ) (b : PegKeyRecord) : Type 0 where
-  pub among : Contains keys b
-  pub later : row < b.row
-  pub first : All (λ k. row < k.row → b.row ≤ k.row) keys

@@ -1,16 +1,19 @@
 //! Laws of values, rows and places: the rules as they are told, without a bound of depth.
 
-ghost use Rattle.std.specs.Prelude.{◌≡◌, ℕ, ◌+◌, ◌<◌, ◌≤◌, Option, Some, List, length, All, MatchOption};
+ghost use Rattle.std.specs.Prelude.{◌≡◌, ℕ, false, ◌+◌, ◌-◌, ◌<◌, ◌≤◌, Option, Some, List, length, All, MatchOption};
+ghost use Rattle.xs_meaning.specs.Cells.{cell_at, covers, shown_after};
+ghost use Rattle.xs_meaning.specs.Chosen.{IsOnlyAt, IsKeyInForce, IsKeyAfter, HasDistinctRows};
 ghost use Rattle.xs_meaning.specs.Drawings.{Pictures};
 ghost use Rattle.xs_meaning.specs.Ends.{AllEnd};
 ghost use Rattle.xs_meaning.specs.Expressions.{by_offsets, row_expr, root_of};
 ghost use Rattle.xs_meaning.specs.Palettes.{Dropped};
-ghost use Rattle.xs_meaning.specs.Places.{own_offset, peg_at, place_of, key_in_force, key_after, IsKeyInForce, IsKeyAfter};
+ghost use Rattle.xs_meaning.specs.Places.{own_offset, peg_at, place_of, key_in_force, key_after};
 ghost use Rattle.xs_meaning.specs.Points.{Point, plus};
 ghost use Rattle.xs_meaning.specs.Rows.{by_points, row_of, row_under, value_under, camera_at};
 ghost use Rattle.xs_meaning.specs.Tables.{ColumnsFollow, NodesFollow, RowsFollow};
 ghost use Rattle.xs_meaning.specs.Walk.{sheet_at, whole_row, row_walk, walk, depth_of};
-ghost use Rattle.xs_scene.specs.Records.{SceneRecord, PegKeyRecord};
+ghost use Rattle.xs_scene.specs.Records.{SceneRecord, PegKeyRecord, ColumnRecord, ExposureRecord};
+ghost use Rattle.xs_scene.specs.declared.seen.Seen.TheVariants as Seen;
 ghost use Rattle.xs_scene.specs.declared.node.Ref.{Ref};
 
 /// The values of columns, nodes and rows are those of the tables, which know no depth. Those of nodes and
@@ -21,6 +24,15 @@ pub fn values_follow_the_tables()
     ensures rows { (s : SceneRecord) (pictures : Pictures) → AllEnd s.sheets → RowsFollow s pictures }
 {}
 
+/// A column shows at a row the exposure whose rows contain it, where there is only one; in a gap it shows
+/// nothing.
+pub fn cells_are_chosen_by_row()
+    ensures shown { (column : ColumnRecord) (row : ℕ) (e : ExposureRecord) → IsOnlyAt column row e
+        → cell_at column row ≡ shown_after (row - e.from) e.shown }
+    ensures gap { (column : ColumnRecord) (row : ℕ) → All (λ e. covers row e ≡ false) column.cells
+        → cell_at column row ≡ Seen.Empty }
+{}
+
 /// A peg stands at a row between the last key at or before it and the first key after it; without the
 /// former all keys come later, and without the latter none does.
 pub fn keys_are_chosen_by_row()
@@ -28,6 +40,12 @@ pub fn keys_are_chosen_by_row()
         → MatchOption (key_in_force keys row) (All (λ k. row < k.row) keys) (IsKeyInForce keys row) }
     ensures after { (keys : List PegKeyRecord) (row : ℕ)
         → MatchOption (key_after keys row) (All (λ k. k.row ≤ row) keys) (IsKeyAfter keys row) }
+
+    // no other key is so, where no two have the same row
+    ensures only_in_force { (keys : List PegKeyRecord) (row : ℕ) (a : PegKeyRecord) → HasDistinctRows keys
+        → IsKeyInForce keys row a → key_in_force keys row ≡ Some a }
+    ensures only_after { (keys : List PegKeyRecord) (row : ℕ) (b : PegKeyRecord) → HasDistinctRows keys
+        → IsKeyAfter keys row b → key_after keys row ≡ Some b }
 {}
 
 /// The place of a peg is its own offset plus the place of its parent.
