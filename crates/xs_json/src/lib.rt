@@ -13,7 +13,7 @@ mod values;
 pub use code::SceneCode;
 pub use fault::{FieldFault, SceneFault};
 pub use field::Field;
-pub use objects::{object, optional, required};
+pub use objects::{all_there, has_any, object, optional, required};
 pub use path::Path;
 pub use place::{Place, Step, fault_at};
 pub use values::{flag, list, text, whole};

@@ -1,7 +1,7 @@
 ghost use Rattle.std.specs.Prelude.{◌≡◌, option_map};
 ghost use Rattle.serde_json.specs.View.{view, members_view};
 ghost use Rattle.xs_json.specs.Reading.{Gives};
-ghost use Rattle.xs_json.specs.Objects.{value_of, has_only, first_missing, is_key, object_at, required_at};
+ghost use Rattle.xs_json.specs.Objects.{value_of, has_only, has_any, first_missing, none_missing, is_key, object_at, required_at};
 
 use crate::code::SceneCode;
 use crate::fault::FieldFault;
@@ -42,6 +42,18 @@ fn knows_each(map: &Map<String, Value>, keys: &[Field]) -> bool
     true
 }
 
+/// Whether one of the fields is there.
+pub fn has_any(map: &Map<String, Value>, keys: &[Field]) -> bool
+    ensures { result ≡ has_any keys.now (members_view map.now.entries) }
+{
+    for k in keys {
+        if optional(map, *k).is_some() {
+            return true;
+        }
+    }
+    false
+}
+
 /// The first of the fields that is not there.
 fn missing(map: &Map<String, Value>, needed: &[Field]) -> Option<Field>
     ensures { result ≡ first_missing needed.now (members_view map.now.entries) }
@@ -52,6 +64,23 @@ fn missing(map: &Map<String, Value>, needed: &[Field]) -> Option<Field>
         }
     }
     None
+}
+
+/// Looks for each of the fields of the object at `at`: MissingKey, at the path of the first that is not
+/// there.
+pub fn all_there(
+    alloc: Global,
+    map: &Map<String, Value>,
+    at: &Path,
+    needed: &[Field],
+) -> Result<(), FieldFault>
+    ensures { let members = members_view map.now.entries in
+        Gives (λ _. members) result (none_missing needed.now at.now members) }
+{
+    match missing(map, needed) {
+        Some(k) => Err(Place::key(at, k).fault(alloc, SceneCode::MissingKey)),
+        None => Ok(()),
+    }
 }
 
 /// The members of an object: WrongKind where the value is none, UnknownKey where it has a key that is
@@ -72,10 +101,8 @@ pub fn object<'v>(
     if !knows_each(map, keys) {
         return Err(fault_at(alloc, SceneCode::UnknownKey, at));
     }
-    match missing(map, needed) {
-        Some(k) => Err(Place::key(at, k).fault(alloc, SceneCode::MissingKey)),
-        None => Ok(map),
-    }
+    all_there(alloc, map, at, needed)?;
+    Ok(map)
 }
 
 /// The value of a field of the object at `at`: MissingKey, at the field's path, where it is not there.
