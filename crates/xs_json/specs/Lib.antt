@@ -1,0 +1,5 @@
+pub mod Codes
+pub mod Fields
+pub mod Paths
+pub mod Reading
+pub mod Objects

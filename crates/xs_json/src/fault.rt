@@ -1,0 +1,45 @@
+ghost use Rattle.xs_json.specs.declared.fault.FieldFault.TheVariants as errors;
+ghost use Rattle.std.specs.Prelude.{◌≡◌};
+
+use crate::code::SceneCode;
+use crate::path::Path;
+use std::alloc::{AllocError, AllocFailed};
+use xs_pixel::Memory;
+
+/// What is wrong, and where.
+#[derive(Debug, Drop)]
+pub struct SceneFault {
+    pub code: SceneCode,
+    pub path: Path,
+}
+
+/// Why a field could not be read.
+#[derive(Debug, Drop)]
+pub enum FieldFault {
+    Fault(SceneFault),
+    Memory,
+}
+
+impl From<Memory> for FieldFault {
+    ghost from_gives = { λ _ e. e ≡ errors.Memory };
+
+    fn from(_error: Memory) -> FieldFault {
+        FieldFault::Memory
+    }
+}
+
+impl From<AllocError> for FieldFault {
+    ghost from_gives = { λ _ e. e ≡ errors.Memory };
+
+    fn from(_error: AllocError) -> FieldFault {
+        FieldFault::Memory
+    }
+}
+
+impl<T: Drop> From<AllocFailed<T>> for FieldFault {
+    ghost from_gives = { λ _ e. e ≡ errors.Memory };
+
+    fn from(_error: AllocFailed<T>) -> FieldFault {
+        FieldFault::Memory
+    }
+}

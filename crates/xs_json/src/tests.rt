@@ -1,0 +1,58 @@
+use super::*;
+use serde_json::Value;
+use std::test::Fail;
+
+#[test]
+fn paths_are_printed(rt: HostRuntime) -> Result<(), Fail> {
+    let root = Path::root(rt.alloc());
+    let sheets = root.key(rt.alloc(), Field::Sheets.text())?;
+    let second = Place::item(&sheets, 10).path(rt.alloc())?;
+    assert_eq!(rt; root.text(), "");
+    assert_eq!(rt; second.copy(rt.alloc())?.text(), "/sheets/10");
+    assert_eq!(rt; sheets.index(rt.alloc(), 0)?.text(), "/sheets/0");
+    Ok(())
+}
+
+#[test]
+fn fields_are_read(rt: HostRuntime) -> Result<(), Fail> {
+    let alloc = rt.alloc();
+    let root = Path::root(alloc);
+    let keys = [Field::W, Field::Kind, Field::Off, Field::Cells];
+    let scene = Value::from_str(
+        alloc,
+        r#"{"w":4096,"kind":"cm32","off":true,"cells":[7,8]}"#,
+    )
+    .ok()
+    .ok_or("the text is JSON")?;
+    let map = object(alloc, &scene, &root, &keys, &keys)
+        .ok()
+        .ok_or("the object has these keys")?;
+    if let Some(v) = optional(map, Field::W) {
+        assert!(rt; matches!(whole(alloc, v, &root, 1, 4096), Ok(4096)));
+    }
+    if let Some(v) = optional(map, Field::Kind) {
+        assert!(rt; matches!(text(alloc, v, &root), Ok("cm32")));
+    }
+    if let Some(v) = optional(map, Field::Off) {
+        assert!(rt; matches!(flag(alloc, v, &root), Ok(true)));
+    }
+    let cells = required(alloc, map, &root, Field::Cells)
+        .ok()
+        .ok_or("the field is there")?;
+    assert!(rt; list(alloc, cells, &root).is_ok_and(|cells| cells.len() == 2));
+    Ok(())
+}
+
+#[test]
+fn codes_are_printed(rt: HostRuntime) {
+    let codes = [
+        (SceneCode::NotJson, 1, "NotJson"),
+        (SceneCode::Placement, 11, "Placement"),
+        (SceneCode::TooLong, 14, "TooLong"),
+        (SceneCode::CamerasDiffer, 16, "CamerasDiffer"),
+    ];
+    for (code, number, name) in codes {
+        assert_eq!(rt; code.number(), number);
+        assert_eq!(rt; code.name(), name);
+    }
+}
