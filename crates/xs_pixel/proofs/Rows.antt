@@ -108,3 +108,8 @@ zip2-append f [] more [] rest same = refl
 zip2-append f [] more (v ∷ vs) rest same = absurd (omega arith)
 zip2-append f (u ∷ us) more [] rest same = absurd (omega arith)
 zip2-append f (u ∷ us) more (v ∷ vs) rest same = ap (λ ws. f u v ∷ ws) (zip2-append f us more vs rest (omega arith))
+
+-- what holds of each item of two lists holds of each of the two joined
+pub Each1-append : {A : Type 0} (P : A → Type 0) (us vs : List A) → Each1 P us → Each1 P vs → Each1 P (us ++ vs)
+Each1-append P [] vs first second = second
+Each1-append P (u ∷ us) vs first second = (first.0, Each1-append P us vs first.1 second)

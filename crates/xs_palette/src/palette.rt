@@ -1,0 +1,96 @@
+ghost use Rattle.std.specs.Prelude.{◌≡◌, ℕ, ◌+◌, ◌-◌, ◌*◌, ◌<◌, ◌≤◌, ◌↔◌, min, length, slice_index_or, IfOk, IsErrOf};
+ghost use Rattle.std.specs.Simd.Lanes.{Each1};
+ghost use Rattle.xs_pixel.specs.Channels.{clear, IsPixel};
+ghost use Rattle.xs_palette.specs.Styles.{written, style_of};
+ghost use Rattle.xs_pixel.specs.Rows.{pixels};
+
+use crate::fault::PaletteFault;
+use std::alloc::Global;
+use std::marker::Model;
+use std::simd::prelude::*;
+use xs_pixel::{Pixel, Style};
+
+/// The greatest number of styles in a palette.
+pub const MOST_STYLES: usize = 4096;
+
+/// The pixels of a palette's styles. Contracts see it as the list of these pixels, in which
+/// `style_of` looks one up.
+#[derive(Debug, Drop)]
+pub struct Palette {
+    // the pixels of its styles by number, and one clear pixel for all that lack
+    table: Vec<u8>,
+    // the place of that clear pixel
+    past: usize,
+}
+
+impl Model for Palette {
+    ghost use Rattle.std.specs.Prelude.{List};
+    ghost use Rattle.xs_pixel.specs.Channels.{Channels};
+    ghost use Rattle.xs_pixel.specs.Rows.{pixels};
+    ghost use Rattle.xs_palette.specs.Table.{IsTable};
+
+    ghost Value = { List Channels };
+
+    ghost view = { λ p. pixels p.table.items };
+
+    ghost invariant = { λ p. IsTable p.past p.table.items };
+}
+
+impl Palette {
+    /// The palette with these styles, numbered from 0. The pixel of style 0 is clear, whatever is
+    /// written for it.
+    pub fn from_styles(alloc: Global, styles: &[Style]) -> Result<Palette, PaletteFault>
+        ensures styles { IfOk result (λ p. style_of p ≡ style_of (written styles.now)) }
+        ensures too_many { IsErrOf result PaletteFault.TooMany ↔ (MOST_STYLES < length styles.now) }
+    {
+        if styles.len() > MOST_STYLES {
+            return Err(PaletteFault::TooMany);
+        }
+        let mut table = Vec::with_capacity(alloc, 4 * (styles.len() + 1))?;
+        for id in 0..styles.len() + 1 {
+            table.extend_from_slice(&shown(styles, id).to_bytes())?;
+        }
+        Ok(Palette {
+            table,
+            past: styles.len(),
+        })
+    }
+
+    /// The pixel of a style: clear for style 0 and for one that the palette lacks.
+    pub fn style(&self, id: u32) -> Pixel
+        ensures { result ≡ style_of self.now id }
+    {
+        let place = (id as usize).min(self.past);
+        Pixel::from_bytes(u8x4::from_slice(&self.table[4 * place..]).to_array())
+    }
+
+    /// The table in which a style is looked up: four bytes for each pixel. The pixel of a style is
+    /// at the lesser of its number and the last place, which holds a clear pixel.
+    pub fn table(&self) -> &[u8]
+        ensures bytes { pixels result.now ≡ self.now }
+        ensures whole { length result.now ≡ 4 * length self.now }
+        ensures few { (0 < length self.now) × (length self.now ≤ MOST_STYLES + 1) }
+        ensures valid { Each1 IsPixel self.now }
+        ensures look_up { (id : ℕ) → slice_index_or self.now (min id (length self.now - 1)) clear ≡ style_of self.now id }
+    {
+        self.table.as_slice()
+    }
+}
+
+/// The pixel that a palette with these styles shows for a number.
+fn shown(styles: &[Style], id: usize) -> Pixel
+    ensures { result ≡ style_of (written styles.now) id }
+{
+    if 0 < id && id < styles.len() {
+        styles[id].pixel()
+    } else {
+        Pixel::CLEAR
+    }
+}
+
+/// A palette may be sent to another thread, and shared with it.
+pub fn palette_crosses_threads() {
+    crosses_threads::<Palette>();
+}
+
+fn crosses_threads<T: Send + Sync>() {}

@@ -1,0 +1,24 @@
+//! The scene: exposure sheets with their pegs, columns and nodes, the levels of drawings and the
+//! palettes. Each type keeps its ranges; whether what a number names is there is not its concern.
+#![tactic(auto)]
+
+pub mod colours;
+pub mod column;
+pub mod level;
+pub mod name;
+pub mod node;
+pub mod peg;
+pub mod range;
+pub mod scene;
+pub mod seen;
+pub mod sheet;
+
+pub use colours::{Colours, StyleKey};
+pub use column::{Column, Exposure, Shown};
+pub use level::{Kind, Level};
+pub use name::Name;
+pub use node::{Node, Ref};
+pub use peg::{Peg, PegKey};
+pub use scene::{Camera, Scene};
+pub use seen::Seen;
+pub use sheet::Sheet;

@@ -1,0 +1,72 @@
+ghost use Rattle.std.specs.Prelude.{◌≡◌, ◌↔◌, IsTrue, IfOk, string_bytes};
+ghost use Rattle.std.specs.Option.{SomeIff};
+ghost use Rattle.xs_scene.specs.Names.{is_name_byte, IsName};
+
+use std::alloc::Global;
+use std::marker::Model;
+use xs_pixel::Memory;
+
+/// A name of a file of the working folder: 1 to 200 ASCII letters, digits, spaces, `_`, `-` and `.`, the
+/// first neither `.` nor a space.
+#[derive(Debug, Drop)]
+pub struct Name {
+    text: String,
+}
+
+impl Model for Name {
+    ghost use Rattle.std.specs.Prelude.{ℕ, List, string_bytes};
+    ghost use Rattle.xs_scene.specs.Names.{IsName};
+
+    ghost Value = { List ℕ };
+
+    ghost view = { λ n. string_bytes n.text };
+
+    ghost invariant = { λ n. IsName (string_bytes n.text) };
+}
+
+fn is_byte_of_name(byte: u8) -> bool
+    ensures { result ≡ is_name_byte byte }
+{
+    byte.is_ascii_alphanumeric() || byte == b' ' || byte == b'_' || byte == b'-' || byte == b'.'
+}
+
+fn is_name(text: &[u8]) -> bool
+    ensures { IsTrue result ↔ IsName text.now }
+{
+    let Some(&first) = text.first() else {
+        return false;
+    };
+    text.len() <= 200
+        && first != b'.'
+        && first != b' '
+        && text.iter().all(|&byte| is_byte_of_name(byte))
+}
+
+impl Name {
+    /// The name with this text; None exactly where the text is no name.
+    pub fn new(text: String) -> Option<Name>
+        ensures { SomeIff result (IsName (string_bytes text)) (string_bytes text) }
+    {
+        if is_name(text.as_bytes()) {
+            Some(Name { text })
+        } else {
+            None
+        }
+    }
+
+    /// The text of the name.
+    pub fn text(&self) -> &str
+        ensures value { result.now ≡ self.now }
+        ensures name { IsName self.now }
+    {
+        self.text.as_str()
+    }
+
+    /// A second name with the same text.
+    pub fn copy(&self, alloc: Global) -> Result<Name, Memory>
+        ensures { IfOk result (λ n. n ≡ self.now) }
+    {
+        let text = String::from_str(alloc, self.text())?;
+        Ok(Name { text })
+    }
+}
