@@ -1,3 +1,4 @@
 pub mod Records
 pub mod Names
 pub mod Ranges
+pub mod InRange

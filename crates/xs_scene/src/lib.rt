@@ -4,6 +4,7 @@
 
 pub mod colours;
 pub mod column;
+mod in_range;
 pub mod level;
 pub mod name;
 pub mod node;

@@ -2,6 +2,7 @@ ghost use Rattle.std.specs.Prelude.{◌↔◌, IsTrue, All};
 ghost use Rattle.xs_scene.specs.Ranges.{HasNoKey, HasNoLines, HasOldNodes, IsPlain};
 
 use crate::colours::Colours;
+use crate::in_range::{Ranged, each_in_range};
 use crate::level::Level;
 use crate::range::{is_reference_or_none, is_side};
 use crate::sheet::Sheet;
@@ -100,6 +101,7 @@ impl Scene {
     ghost use Rattle.std.specs.Prelude.{◌≡◌};
     ghost use Rattle.std.specs.Option.{SomeIff};
     ghost use Rattle.xs_scene.specs.Ranges.{IsScene};
+    ghost use Rattle.xs_scene.specs.InRange.{IsInRange};
 
     /// The scene with these fields; None exactly where the format is neither 1 nor 2, or it is 1 and the
     /// scene has something that came with format 2.
@@ -131,5 +133,16 @@ impl Scene {
     {
         self.format = 2;
         self
+    }
+
+    /// Each number of the scene is in its range, at every level. Nothing is done but to tell it to
+    /// contracts, which see a scene as a record of plain numbers.
+    pub fn in_range(&self)
+        ensures { IsInRange self.now }
+    {
+        self.camera.in_range();
+        each_in_range(&self.palettes);
+        each_in_range(&self.levels);
+        each_in_range(&self.sheets);
     }
 }

@@ -1,0 +1,91 @@
+ghost use Rattle.std.specs.Prelude.{◌≡◌, ◌≤◌, [], None, ⊤};
+ghost use Rattle.xs_outside.specs.Told.{Rose};
+ghost use Rattle.xs_outside.specs.Answers.{IsFetched, IsAsked};
+ghost use Rattle.xs_outside.specs.Counts.{CountsFetch};
+
+use std::alloc::Global;
+use std::io::{ErrorKind, Read};
+use std::marker::Model;
+use std::rt::Files;
+use std::{fs, io};
+use xs_outside::{Fetched, Library};
+
+/// The files of the working folder. It tells nothing. Contracts see it as its count of faults, which
+/// starts at 0, rises at Failed, Absent and TooLong, and stands still at 2^64 - 1.
+#[derive(Drop)]
+pub struct FolderLibrary<'a, R: Files> {
+    rt: &'a R,
+    faults: u64,
+}
+
+impl<'a, R: Files> Model for FolderLibrary<'a, R> {
+    ghost use Rattle.std.specs.Prelude.{ℕ};
+
+    ghost Value = { ℕ };
+
+    ghost view = { λ l. l.faults };
+}
+
+impl<'a, R: Files> FolderLibrary<'a, R> {
+    /// The working folder of the process that `rt` stands for.
+    pub fn new(rt: &'a R) -> FolderLibrary<'a, R>
+        ensures { result ≡ 0 }
+    {
+        FolderLibrary { rt, faults: 0 }
+    }
+}
+
+/// The answer to a fault of opening or reading.
+fn fault_answer(error: &io::Error) -> Fetched
+    ensures { IsFetched None [] 0 ⊤ result }
+{
+    match error.kind() {
+        ErrorKind::NotFound => Fetched::Absent,
+        ErrorKind::OutOfMemory => Fetched::Memory,
+        _ => Fetched::Failed,
+    }
+}
+
+/// The bytes of the file of this name. At most `limit + 1` of them are read, so that a file without
+/// end is too long.
+fn read_file<R: Files>(rt: &R, alloc: Global, name: &str, limit: u64) -> Fetched
+    ensures within { IsFetched None name.now limit ⊤ result }
+{
+    let file = match fs::open(rt, name) {
+        Ok(file) => file,
+        Err(error) => return fault_answer(&error),
+    };
+    let mut bytes = Vec::new(alloc);
+    if let Err(error) = file.take(limit.saturating_add(1)).read_to_end(&mut bytes) {
+        return fault_answer(&error);
+    }
+    if bytes.len() as u64 > limit {
+        return Fetched::TooLong;
+    }
+    Fetched::Bytes(bytes)
+}
+
+#[tactic(auto, using(xs_outside::proofs::Growth::asked_untold))]
+impl<R: Files> Library for FolderLibrary<'_, R> {
+    ghost files = { λ _. None };
+
+    ghost asked = { λ _. None };
+
+    ghost faults = { λ l. l };
+
+    fn get(&mut self, alloc: Global, name: &str, limit: u64) -> Fetched
+        ensures answer { IsFetched None name.now limit (Rose self.old self.new) result }
+        ensures asked { IsAsked None None name.now result }
+        ensures later { self.old ≤ self.new }
+        ensures counts { CountsFetch self.old self.new result }
+    {
+        let answer = read_file(self.rt, alloc, name, limit);
+        match &answer {
+            Fetched::Bytes(_) | Fetched::Memory => {}
+            Fetched::Absent | Fetched::TooLong | Fetched::Failed => {
+                self.faults = self.faults.saturating_add(1);
+            }
+        }
+        answer
+    }
+}

@@ -1,0 +1,46 @@
+use super::*;
+use std::test::Fail;
+use std::{fs, io};
+use xs_outside::{Fetched, Library, Noted, Notes, Put, Shelf};
+
+/// The bytes that the working folder has under this name, or why there are none.
+fn text_of(rt: &HostRuntime, name: &str, limit: u64) -> io::Result<String> {
+    let mut library = FolderLibrary::new(rt);
+    match library.get(rt.alloc(), name, limit) {
+        Fetched::Bytes(bytes) => Ok(String::from_utf8_lossy(rt.alloc(), bytes.as_slice())?),
+        Fetched::Absent => Ok(String::from_str(rt.alloc(), "absent")?),
+        Fetched::TooLong => Ok(String::from_str(rt.alloc(), "too long")?),
+        Fetched::Failed => Ok(String::from_str(rt.alloc(), "failed")?),
+        Fetched::Memory => Ok(String::from_str(rt.alloc(), "memory")?),
+    }
+}
+
+#[test]
+fn a_file_comes_back_as_it_was_put(rt: HostRuntime) -> Result<(), Fail> {
+    let mut shelf = FolderShelf::new(&rt);
+    assert_eq!(rt;
+        shelf.put(rt.alloc(), "f.0001.xfr", b"old frame"),
+        Put::Done
+    );
+    assert_eq!(rt; shelf.put(rt.alloc(), "f.0001.xfr", b"frame"), Put::Done);
+    fs::create_dir(&rt, "folder")?;
+    assert_eq!(rt; shelf.put(rt.alloc(), "folder", b"frame"), Put::Failed);
+    let rows = [
+        ("f.0001.xfr", 5, "frame"),
+        ("f.0001.xfr", 4, "too long"),
+        ("f.0002.xfr", 5, "absent"),
+        (".folder.part", 5, "absent"),
+        ("folder", 5, "failed"),
+    ];
+    for (name, limit, answer) in rows {
+        let text = text_of(&rt, name, limit)?;
+        assert_eq!(rt; text.as_str(), answer, "of {name}");
+    }
+    Ok(())
+}
+
+#[test]
+fn a_line_is_written(rt: HostRuntime) {
+    let mut notes = OutNotes::new(&rt);
+    assert_eq!(rt; notes.line(rt.alloc(), b"rendered 1 rows"), Noted::Done);
+}

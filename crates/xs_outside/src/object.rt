@@ -1,0 +1,23 @@
+ghost use Rattle.std.specs.Prelude.{◌≡◌, IfOk};
+
+use std::alloc::Global;
+use xs_pixel::{List, Memory};
+
+/// One named file: its name and its bytes.
+#[derive(Debug, Drop)]
+pub struct Object {
+    pub name: List<u8>,
+    pub bytes: List<u8>,
+}
+
+impl Object {
+    /// The file with this name and these bytes, copied.
+    pub fn new(alloc: Global, name: &str, bytes: &[u8]) -> Result<Object, Memory>
+        ensures { IfOk result (λ object. object ≡ record { name = name.now; bytes = bytes.now }) }
+    {
+        Ok(Object {
+            name: List::of(Vec::from_slice(alloc, name.as_bytes())?),
+            bytes: List::of(Vec::from_slice(alloc, bytes)?),
+        })
+    }
+}

@@ -1,0 +1,12 @@
+//! Rectangles of whole points, and the tiles into which a frame is cut. x grows to the right and y
+//! upwards.
+#![tactic(auto)]
+
+pub mod rect;
+pub mod tiling;
+
+pub use rect::Rect;
+pub use tiling::tiles;
+
+#[cfg(test)]
+mod tests;
