@@ -1,4 +1,4 @@
-use Rattle.std.proofs.Common.{ℕ, ◌+◌, ◌-◌, ◌*◌, ◌/◌, ◌%◌, ◌^◌, ◌≤◌, arith}
+use Rattle.std.proofs.Common.{◌≡◌, ℕ, refl, ◌+◌, ◌-◌, ◌*◌, ◌/◌, ◌%◌, ◌^◌, ◌≤◌, arith}
 use Rattle.std.proofs.Math.Nat.{mul-le-mul_right}
 use Rattle.xs_pixel.specs.Channels.{Channels, IsPixel}
 use Rattle.xs_cm32.specs.Word.{mixed, tone_of, colour_of}
@@ -28,3 +28,21 @@ IsPixel-colour_of w ink paint inks paints =
       blue = mixed_le_mixed (tone_of w) ink.b ink.m paint.b paint.m inks.blue paints.blue;
       top = mixed_le_255 (tone_of w) ink.m paint.m (omega arith) inks.top paints.top;
     }
+
+mixed-0 : (ink paint : ℕ) → mixed 0 ink paint ≡ ink
+unfolding mixed
+mixed-0 ink paint = omega arith
+
+mixed-255 : (ink paint : ℕ) → mixed 255 ink paint ≡ paint
+unfolding mixed
+mixed-255 ink paint = omega arith
+
+-- pure ink
+pub colour_of-ink : (w : ℕ) (ink paint : Channels) → tone_of w ≡ 0 → colour_of w ink paint ≡ ink
+colour_of-ink w ink paint pure =
+    rw (pure, mixed-0 ink.r paint.r, mixed-0 ink.g paint.g, mixed-0 ink.b paint.b, mixed-0 ink.m paint.m) refl
+
+-- pure paint
+pub colour_of-paint : (w : ℕ) (ink paint : Channels) → tone_of w ≡ 255 → colour_of w ink paint ≡ paint
+colour_of-paint w ink paint pure =
+    rw (pure, mixed-255 ink.r paint.r, mixed-255 ink.g paint.g, mixed-255 ink.b paint.b, mixed-255 ink.m paint.m) refl

@@ -3,4 +3,7 @@
 
 pub mod word;
 
-pub use word::{Cm32, colour, word_layout};
+pub use word::{Cm32, colour, pure_tones, word_layout};
+
+#[cfg(test)]
+mod tests;

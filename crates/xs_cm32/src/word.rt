@@ -1,4 +1,5 @@
 ghost use Rattle.std.specs.Prelude.{◌≡◌, ℕ, ◌<◌, ◌^◌};
+ghost use Rattle.xs_pixel.specs.Channels.{Channels};
 ghost use Rattle.xs_cm32.specs.Word.{ink_of, paint_of, tone_of, word_of, mixed, colour_of};
 
 use std::marker::Model;
@@ -51,6 +52,12 @@ pub fn word_layout()
     ensures paint { (i p t : ℕ) → p < 4096 → t < 256 → paint_of (word_of i p t) ≡ p }
     ensures tone { (i p t : ℕ) → t < 256 → tone_of (word_of i p t) ≡ t }
     ensures fits { (i p t : ℕ) → i < 4096 → p < 4096 → t < 256 → word_of i p t < 2 ^ 32 }
+{}
+
+/// Tone 0 gives the ink and tone 255 the paint.
+pub fn pure_tones()
+    ensures ink { (w : ℕ) (ink paint : Channels) → tone_of w ≡ 0 → colour_of w ink paint ≡ ink }
+    ensures paint { (w : ℕ) (ink paint : Channels) → tone_of w ≡ 255 → colour_of w ink paint ≡ paint }
 {}
 
 /// A channel of the mix, by the tone.

@@ -1,0 +1,43 @@
+ghost use Rattle.std.specs.Prelude.{◌≡◌, ◌%◌, length};
+ghost use Rattle.std.specs.Simd.Lanes.{Each1, zip2};
+ghost use Rattle.xs_pixel.specs.Channels.{IsPixel};
+ghost use Rattle.xs_pixel.specs.Operations.{apply_of};
+ghost use Rattle.xs_pixel.specs.Rows.{pixels};
+
+use crate::kernel::row;
+use crate::operations::{Add, MatteIn, MatteOut, Max, Min, Mult, Over, Sub};
+use xs_pixel::Op;
+
+/// Writes the results of `op` on the pixels of an upper row `u` and a lower row `d`. A row is four
+/// bytes for each pixel, and all three are equally long.
+pub fn op_row(op: Op, u: &[u8], d: &[u8], to: &mut [u8])
+    requires same { length d.now ≡ length u.now }
+    requires room { length to.old ≡ length u.now }
+    requires whole { length u.now % 4 ≡ 0 }
+    requires first { Each1 IsPixel (pixels u.now) }
+    requires second { Each1 IsPixel (pixels d.now) }
+    ensures value { pixels to.new ≡ zip2 (apply_of op) (pixels u.now) (pixels d.now) }
+    ensures valid { Each1 IsPixel (pixels to.new) }
+{
+    by_blocks(op, u, d, to);
+}
+
+fn by_blocks(op: Op, u: &[u8], d: &[u8], to: &mut [u8])
+    requires same { length d.now ≡ length u.now }
+    requires room { length to.old ≡ length u.now }
+    requires whole { length u.now % 4 ≡ 0 }
+    requires first { Each1 IsPixel (pixels u.now) }
+    requires second { Each1 IsPixel (pixels d.now) }
+    ensures { pixels to.new ≡ zip2 (apply_of op) (pixels u.now) (pixels d.now) }
+{
+    match op {
+        Op::Over => row::<Over>(u, d, to),
+        Op::Add => row::<Add>(u, d, to),
+        Op::Sub => row::<Sub>(u, d, to),
+        Op::Mult => row::<Mult>(u, d, to),
+        Op::Min => row::<Min>(u, d, to),
+        Op::Max => row::<Max>(u, d, to),
+        Op::MatteIn => row::<MatteIn>(u, d, to),
+        Op::MatteOut => row::<MatteOut>(u, d, to),
+    }
+}

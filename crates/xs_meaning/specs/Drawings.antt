@@ -1,0 +1,67 @@
+use Rattle.std.specs.Prelude.{ℕ, ◌+◌, ◌-◌, nat_lt, Option, Some, None, List, [], ◌∷◌, map, take, length, sum_by, slice_index_or, option_map, option_and_then, All, IfSome, if◌then◌else◌}
+use Rattle.xs_pixel.specs.Channels.{Channels, IsPixel, clear}
+use Rattle.xs_pixel.specs.Picture.{Picture, Content, Colours, Words, at_point}
+use Rattle.xs_scene.specs.declared.level.Kind.{Kind}
+use Rattle.xs_scene.specs.declared.level.Kind.TheVariants.{Colour, Cm32}
+use Rattle.xs_scene.specs.Records.{SceneRecord, LevelRecord, ColoursRecord}
+use Rattle.xs_cm32.specs.Word.{colour_under}
+use Rattle.xs_meaning.specs.Points.{Point}
+use Rattle.xs_meaning.specs.Palettes.{Colouring, Dropped, style_at, as_written}
+
+-- the picture of each drawing, by its number, if its file is there
+abbrev pub Pictures : Type 0
+Pictures = ℕ → Option Picture
+
+-- the number of a drawing: levels in order, then their drawings in order
+abbrev pub number_of : List LevelRecord → ℕ → ℕ → ℕ
+number_of levels level index = sum_by (λ l. length l.drawings) (take level levels) + index
+
+-- the level of the drawing with a number
+abbrev pub level_of : List LevelRecord → ℕ → Option LevelRecord
+level_of [] d = None
+level_of (l ∷ ls) d = if nat_lt d (length l.drawings) then Some l else level_of ls (d - length l.drawings)
+
+abbrev pub no_colours : ColoursRecord
+no_colours = record { styles = []; keys = [] }
+
+-- the palette of a kind of level: a colour level has none
+abbrev pub palette_of : List ColoursRecord → Kind → Option ColoursRecord
+palette_of palettes Colour = None
+palette_of palettes (Cm32 palette) = Some (slice_index_or palettes palette no_colours)
+
+-- the palette of a drawing, and none where it is a colour drawing
+unfoldable pub colours_of : SceneRecord → ℕ → Option ColoursRecord
+colours_of s d = option_and_then (λ l. palette_of s.palettes l.kind) (level_of s.levels d)
+
+-- the pixels of a colour file, the words of a CM32 file
+abbrev pub pixels_in : Content → List Channels
+pixels_in (Colours pixels) = pixels
+pixels_in (Words words) = []
+
+abbrev pub words_in : Content → List ℕ
+words_in (Colours pixels) = []
+words_in (Words words) = words
+
+-- the pixel of a drawing at a point: a colour drawing has the pixels of its file, another one its
+-- words under a colouring. It is clear outside its box, without a picture, and where its file is of
+-- the other kind
+unfoldable pub drawing_pixel : Option Picture → Option Colouring → Point → Channels
+drawing_pixel None colouring p = clear
+drawing_pixel (Some picture) None p = at_point picture (pixels_in picture.content) clear p.x p.y
+drawing_pixel (Some picture) (Some colouring) p =
+    at_point picture (map (colour_under colouring) (words_in picture.content)) clear p.x p.y
+
+-- the colouring of a drawing as its palette is written, and at a row under dropped styles
+abbrev pub written_colouring : SceneRecord → ℕ → Option Colouring
+written_colouring s d = option_map as_written (colours_of s d)
+
+abbrev pub colouring_at : SceneRecord → ℕ → ℕ → Dropped → Option Colouring
+colouring_at s d row f = option_map (λ c. style_at c row f) (colours_of s d)
+
+abbrev pub HoldsPixels : Content → Type 0
+HoldsPixels (Colours pixels) = All IsPixel pixels
+HoldsPixels (Words words) = Unit {0}
+
+-- the pixels of colour files are pixels
+abbrev pub ArePixels : Pictures → Type 0
+ArePixels pictures = (d : ℕ) → IfSome (pictures d) (λ q. HoldsPixels q.content)

@@ -1,0 +1,16 @@
+pub mod Points
+pub mod Keys
+pub mod Palettes
+pub mod Drawings
+pub mod Cells
+pub mod Places
+pub mod Walk
+pub mod Rows
+pub mod Expressions
+pub mod Extents
+pub mod Agreement
+pub mod Bounds
+pub mod Ends
+pub mod Tables
+pub mod States
+pub mod Samples

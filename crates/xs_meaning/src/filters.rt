@@ -1,0 +1,44 @@
+//! Laws of palettes, palette keys and palette filters.
+
+ghost use Rattle.std.specs.Prelude.{◌≡◌, ◌↔◌, ℕ, List};
+ghost use Rattle.xs_meaning.specs.Agreement.{AgreeOnWords, UsesNoneOf, UsesOnly, DropsAlike, PalettesAlike};
+ghost use Rattle.xs_meaning.specs.Drawings.{Pictures};
+ghost use Rattle.xs_meaning.specs.Expressions.{row_expr, input_expr};
+ghost use Rattle.xs_meaning.specs.Palettes.{Dropped, deleting, keeping, style_at, tint_at, tint_style};
+ghost use Rattle.xs_meaning.specs.Points.{Point};
+ghost use Rattle.xs_meaning.specs.Rows.{row_under, value_under};
+ghost use Rattle.xs_scene.specs.Records.{SceneRecord, ColoursRecord};
+ghost use Rattle.xs_scene.specs.declared.node.Ref.{Ref};
+
+/// A tint gives each style its pixel, and palettes that give every style the same pixel have one tint.
+pub fn tint_is_canonical()
+    ensures pixels { (c : ColoursRecord) (row : ℕ) (f : Dropped) (style : ℕ)
+        → tint_style (tint_at c row f) style ≡ style_at c row f style }
+    ensures one { (c other : ColoursRecord) (row more : ℕ) (f g : Dropped)
+        → ((style : ℕ) → style_at c row f style ≡ style_at other more g style)
+        → tint_at c row f ≡ tint_at other more g }
+{}
+
+/// Filters and palette keys that leave every style its pixel change no expression.
+pub fn same_pixels_make_the_same_expression()
+    ensures filters { (s : SceneRecord) (f g : Dropped) → DropsAlike s f g → (k row : ℕ) (o : Point)
+        → row_expr s k row f o ≡ row_expr s k row g o }
+    ensures filters_on_inputs { (s : SceneRecord) (f g : Dropped) → DropsAlike s f g
+        → (k : ℕ) (n : Ref) (row : ℕ) (o : Point)
+        → input_expr s k n row f o ≡ input_expr s k n row g o }
+    ensures keys { (s : SceneRecord) (others : List ColoursRecord) → PalettesAlike s.palettes others
+        → (k row : ℕ) (f : Dropped) (o : Point)
+        → row_expr s k row f o ≡ row_expr (record s { palettes = others }) k row f o }
+{}
+
+/// A filter that drops no style that a drawing's words use changes no value.
+pub fn unused_styles_change_no_value()
+    ensures deleted { (s : SceneRecord) (pictures : Pictures) (styles : List ℕ) → UsesNoneOf styles pictures
+        → (k : ℕ) (n : Ref) (row : ℕ) (f : Dropped) (p : Point)
+        → value_under s pictures k n row (deleting styles f) p ≡ value_under s pictures k n row f p }
+    ensures kept { (s : SceneRecord) (pictures : Pictures) (styles : List ℕ) → UsesOnly styles pictures
+        → (k : ℕ) (n : Ref) (row : ℕ) (f : Dropped) (p : Point)
+        → value_under s pictures k n row (keeping styles f) p ≡ value_under s pictures k n row f p }
+    ensures rows { (s : SceneRecord) (pictures : Pictures) (f g : Dropped) → AgreeOnWords pictures f g
+        → (k row : ℕ) (p : Point) → row_under s pictures k row f p ≡ row_under s pictures k row g p }
+{}
