@@ -1,0 +1,118 @@
+use Rattle.std.proofs.Common.{◌≡◌, ◌<◌, ◌≤◌, ◌+◌, ◌==◌, ℕ, zero, suc, Bool, true, false, Option, Some, None, List, [], ◌∷◌, Contains, length, map, get_or, refl, sym, ◌∙◌, ap, subst, arith}
+use Rattle.std.proofs.Math.ListN.{get_or-map}
+use Rattle.std.proofs.lemmas.List.{length-map}
+use Rattle.std.proofs.Math.Numerals.{add-one}
+use Rattle.std.proofs.lemmas.Bool.{false≢true}
+use Rattle.std.proofs.lemmas.Bool.Decides.{nat_tests}
+use Rattle.std.proofs.lemmas.List.Folds.{Any-from_list_any, list_any-from_Any}
+use Rattle.std.specs.List.{list_any}
+use Rattle.xs_check.specs.Ways.{Links, named_by, Leads, Reaches, LiesOnCycle, HasChain, has_chain, TellChains, IsFirstWithout}
+
+-- ---- chains and their test
+
+chain_by_any : (links : Links) (steps a : ℕ) → ((c : ℕ) → has_chain links steps c ≡ true → HasChain links steps c)
+    → list_any (has_chain links steps) (named_by links a) ≡ true → HasChain links (suc steps) a
+unfolding Leads
+chain_by_any links steps a rest h =
+    let (k, c, below, is, found) = Any-from_list_any (has_chain links steps) (named_by links a) h in
+    let chain = rest c found in
+    record { end = chain.end; way = (c, (k, below, is), chain.way) }
+
+pub chain_found : (links : Links) (steps a : ℕ) → has_chain links steps a ≡ true → HasChain links steps a
+unfolding Leads has_chain
+chain_found links zero a h = record { end = a; way = refl }
+chain_found links (suc steps) a h = chain_by_any links steps a (chain_found links steps) h
+
+pub chain_told : (links : Links) (steps a b : ℕ) → Leads links steps a b → has_chain links steps a ≡ true
+unfolding Leads has_chain
+chain_told links zero a b way = refl
+chain_told links (suc steps) a b (c, (k, below, is), way) =
+    list_any-from_Any (has_chain links steps) (named_by links a) (k, c, below, is, chain_told links steps c b way)
+
+pub no_chain : (links : Links) (steps a : ℕ) → has_chain links steps a ≡ false → HasChain links steps a → ⊥
+no_chain links steps a told chain = false≢true (sym told ∙ chain_told links steps a chain.end chain.way)
+
+pub bool_cases : (b : Bool) (P : Type 0) → (b ≡ true → P) → (b ≡ false → P) → P
+bool_cases true P when_true when_false = when_true refl
+bool_cases false P when_true when_false = when_false refl
+
+pub chain_missing : (links : Links) (steps a : ℕ) → (HasChain links steps a → ⊥) → has_chain links steps a ≡ false
+chain_missing links steps a none =
+    bool_cases (has_chain links steps a) (has_chain links steps a ≡ false)
+    (λ h. absurd (none (chain_found links steps a h))) (λ h. h)
+
+-- ---- cycles
+
+-- a way with one step more at its end
+pub leads_on : (links : Links) (steps a b c : ℕ) → Leads links steps a b → Contains (named_by links b) c → Leads links (suc steps) a c
+unfolding Leads
+leads_on links zero a b c is named = (c, subst (λ (x : ℕ). Contains (named_by links x) c) (sym is) named, refl)
+leads_on links (suc steps) a b c (d, first, way) named = (d, first, leads_on links steps d b c way named)
+
+cycle_step : (links : Links) (steps a n : ℕ) → ((c : ℕ) → LiesOnCycle links c → HasChain links steps c)
+    → Leads links (suc n) a a → HasChain links (suc steps) a
+unfolding Leads
+cycle_step links steps a n rest (c, named, way) =
+    let chain = rest c (record { steps = n; way = leads_on links n c a c way named }) in
+    record { end = chain.end; way = (c, named, chain.way) }
+
+-- on a cycle a chain goes on for ever
+pub cycle_chains : (links : Links) (steps a : ℕ) → LiesOnCycle links a → HasChain links steps a
+unfolding Leads
+cycle_chains links zero a cycle = record { end = a; way = refl }
+cycle_chains links (suc steps) a cycle = cycle_step links steps a cycle.steps (cycle_chains links steps) cycle.way
+
+pub no_chain_no_cycle : (links : Links) (steps a : ℕ) → has_chain links steps a ≡ false → LiesOnCycle links a → ⊥
+no_chain_no_cycle links steps a told cycle = no_chain links steps a told (cycle_chains links steps a cycle)
+
+-- ---- marks
+
+pub chains_none : (links : Links) (marks : List Bool) → marks ≡ map (λ named. true) links → TellChains links 0 marks
+unfolding has_chain
+chains_none links marks is =
+    record {
+      length = rw is (length-map links (λ (named : List ℕ). true));
+      told = λ a. rw is (get_or-map (λ (named : List ℕ). true) links a []);
+    }
+
+any_same : (p q : ℕ → Bool) (xs : List ℕ) → ((c : ℕ) → p c ≡ q c) → list_any p xs ≡ list_any q xs
+any_same p q [] same = refl
+any_same p q (x ∷ xs) same = rw (same x, any_same p q xs same) refl
+
+later_is_inside : (steps : ℕ) → ((steps + 1) == 0) ≡ false
+later_is_inside steps = grind (arith, nat_tests)
+
+pub chains_more : (links : Links) (steps : ℕ) (outside : Bool) (marks longer : List Bool) → outside ≡ (steps == 0)
+    → TellChains links steps marks
+    → longer ≡ map (λ named. list_any (λ c. get_or marks c outside) named) links
+    → TellChains links (steps + 1) longer
+unfolding has_chain
+chains_more links steps outside marks longer out tells is =
+    record {
+      length = rw is (length-map links (λ (named : List ℕ). list_any (λ c. get_or marks c outside) named));
+      told =
+          λ a.
+          let same : (c : ℕ) → get_or marks c outside ≡ has_chain links steps c = λ c. rw out (tells.told c) in
+          rw (is, later_is_inside steps, add-one steps)
+          (get_or-map (λ (named : List ℕ). list_any (λ c. get_or marks c outside) named) links a []
+          ∙ any_same (λ c. get_or marks c outside) (has_chain links steps) (named_by links a) same);
+    }
+
+first_by : (links : Links) (steps : ℕ) (marks : List Bool) (first : Option ℕ)
+    → ((a : ℕ) → get_or marks a false ≡ has_chain links steps a) → length marks ≡ length links
+    → IsFirstWithout (λ i. get_or marks i false ≡ false) (length marks) first
+    → IsFirstWithout (λ a. HasChain links steps a → ⊥) (length links) first
+first_by links steps marks None told same h = λ i below. no_chain links steps i (sym (told i) ∙ h i (rw same below))
+first_by links steps marks (Some i) told same (below, marked, before) = (
+  rw (← same) below,
+  λ none. marked (told i ∙ chain_missing links steps i none),
+  λ j earlier. no_chain links steps j (sym (told j) ∙ before j earlier),
+)
+
+pub first_chain : (links : Links) (steps : ℕ) (marks : List Bool) (first : Option ℕ) → 0 < steps → TellChains links steps marks
+    → IsFirstWithout (λ i. get_or marks i false ≡ false) (length marks) first
+    → IsFirstWithout (λ a. HasChain links steps a → ⊥) (length links) first
+first_chain links steps marks first some tells h =
+    let inside : (steps == 0) ≡ false = grind (arith, nat_tests) in
+    let told : (a : ℕ) → get_or marks a false ≡ has_chain links steps a = λ a. subst (λ (b : Bool). get_or marks a b ≡ has_chain links steps a) inside (tells.told a) in
+    first_by links steps marks first told tells.length h

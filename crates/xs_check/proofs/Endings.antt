@@ -1,0 +1,166 @@
+use Rattle.std.proofs.Common.{◌≡◌, ◌≢◌, ◌<◌, ◌≤◌, ◌+◌, ℕ, zero, suc, Bool, true, false, ◌||◌, Option, Some, None, List, [], ◌∷◌, ◌++◌, All, AllPairs, Contains, length, map, get_or, flat_map, slice_get, refl, sym, ◌∙◌, ap, subst, eqb, arith}
+use Rattle.std.proofs.Math.ListN.{get_or-map}
+use Rattle.std.proofs.lemmas.Bool.{false≢true, eqb-true}
+use Rattle.std.proofs.lemmas.Bool.Decides.{Decides-eqb}
+use Rattle.std.proofs.lemmas.List.Elements.{Contains-append_left, Contains-append_right}
+use Rattle.std.proofs.lemmas.List.Folds.{Any-from_list_any, list_any-from_Any}
+use Rattle.std.proofs.lemmas.List.Kept.{AllPairs-cons}
+use Rattle.std.proofs.lemmas.Map.Made.{IsDistinct-from_AllPairs}
+use Rattle.std.proofs.lemmas.Map.Steps.{length-le_from_distinct_below}
+use Rattle.std.specs.List.{list_any}
+use Rattle.std.specs.Option.{option_to_list}
+use Rattle.xs_scene.specs.declared.column.Shown.{Shown}
+use Rattle.xs_scene.specs.declared.column.Shown.TheVariants.{Drawing, Sheet}
+use Rattle.xs_scene.specs.declared.node.Ref.{Ref}
+use Rattle.xs_scene.specs.declared.node.Ref.TheVariants.{Column as ToColumn, Node as ToNode}
+use Rattle.xs_scene.specs.declared.node.Node.{Node}
+use Rattle.xs_scene.specs.declared.node.Node.TheVariants.{Pair, Card, Shuffle, Blur, Keep, Delete}
+use Rattle.xs_scene.specs.Records.{SheetRecord, ColumnRecord, ExposureRecord, PegRecord}
+use Rattle.xs_meaning.specs.Places.{no_peg, peg_at}
+use Rattle.xs_meaning.specs.Walk.{no_sheet, sheet_at}
+use Rattle.xs_meaning.specs.Ends.{InputsHave, NodesEnd, ShownHas, SheetsEnd, PegsEnd}
+use Rattle.xs_check.specs.Ways.{Links, named_by, Leads, Reaches, LiesOnCycle, has_chain}
+use Rattle.xs_check.specs.Links.{parent_links, node_in, nodes_in, input_links, sheet_in, sheets_in, sheet_links}
+use Rattle.xs_check.proofs.Chains.{bool_cases}
+
+-- ---- without a cycle a way has no more points than there are things
+
+module _ (links : Links) (inside : (a c : ℕ) → Contains (named_by links a) c → c < length links) (acyclic : (a : ℕ) → a < length links → LiesOnCycle links a → ⊥) where
+  unfoldable points : (steps a b : ℕ) → Leads links steps a b → List ℕ
+  unfolding Leads
+  points zero a b way = a ∷ []
+  points (suc steps) a b (c, named, way) = a ∷ points steps c b way
+
+  points_length : (steps a b : ℕ) (way : Leads links steps a b) → length (points steps a b way) ≡ suc steps
+  unfolding Leads points
+  points_length zero a b way = refl
+  points_length (suc steps) a b (c, named, way) = ap suc (points_length steps c b way)
+
+  point_reached : (steps a b : ℕ) (way : Leads links steps a b) (k d : ℕ) → k < length (points steps a b way)
+      → (j : ℕ) × Leads links j a (get_or (points steps a b way) k d)
+  unfolding Leads points
+  point_reached zero a b way zero d below = (0, refl)
+  point_reached zero a b way (suc k) d below = absurd (omega arith)
+  point_reached (suc steps) a b (c, named, way) zero d below = (0, refl)
+  point_reached (suc steps) a b (c, named, way) (suc k) d below =
+      let (j, rest) = point_reached steps c b way k d (omega arith) in
+      (suc j, (c, named, rest))
+
+  point_below : (steps a b : ℕ) (way : Leads links steps a b) → a < length links → (k d : ℕ) → k < length (points steps a b way)
+      → get_or (points steps a b way) k d < length links
+  unfolding Leads points
+  point_below zero a b way here zero d below = here
+  point_below zero a b way here (suc k) d below = absurd (omega arith)
+  point_below (suc steps) a b (c, named, way) here zero d below = here
+  point_below (suc steps) a b (c, named, way) here (suc k) d below = point_below steps c b way (inside a c named) k d (omega arith)
+
+  points_differ : (steps a b : ℕ) (way : Leads links steps a b) → a < length links → AllPairs (λ x y. x ≢ y) (points steps a b way)
+  unfolding Leads points
+  points_differ zero a b way here = λ i j d less below. absurd (omega arith)
+  points_differ (suc steps) a b (c, named, way) here =
+      AllPairs-cons (λ (x : ℕ) (y : ℕ). x ≢ y) a (points steps c b way)
+      (λ k d below same.
+      let (j, rest) = point_reached steps c b way k d below in
+      acyclic a here (record { steps = j; way = (c, named, subst (λ (x : ℕ). Leads links j c x) (sym same) rest) }))
+      (points_differ steps c b way (inside a c named))
+
+  pub no_long_way : (steps a b : ℕ) → Leads links steps a b → a < length links → length links ≤ steps → ⊥
+  no_long_way steps a b way here long =
+      let most : length (points steps a b way) ≤ length links =
+      length-le_from_distinct_below (points steps a b way) (length links)
+      (IsDistinct-from_AllPairs Decides-eqb (points steps a b way) (points_differ steps a b way here))
+      (λ q found.
+      let (k, x, below, is, same) = Any-from_list_any (eqb q) (points steps a b way) found in
+      subst (λ (y : ℕ). y < length links) (is ∙ sym (eqb-true q x same)) (point_below steps a b way here k x below)) in
+      let long_is = points_length steps a b way in
+      omega arith
+
+-- ---- chains that end
+
+or_false : (b c : Bool) → (b || c) ≡ false → b ≡ false
+or_false true c h = absurd (false≢true (sym h))
+or_false false c h = refl
+
+none_at : (p : ℕ → Bool) (xs : List ℕ) (x : ℕ) → list_any p xs ≡ false → Contains xs x → p x ≡ false
+none_at p xs x none (k, below, is) =
+    bool_cases (p x) (p x ≡ false)
+    (λ found. absurd (false≢true (sym none ∙ list_any-from_Any p xs (k, x, below, is, found)))) (λ h. h)
+
+parent_ends : (k : SheetRecord) (m : ℕ) (peg : Option ℕ) → ((i : ℕ) → has_chain (parent_links k) m i ≡ false → PegsEnd k m (Some i))
+    → list_any (has_chain (parent_links k) m) (option_to_list peg) ≡ false → PegsEnd k m peg
+unfolding PegsEnd
+parent_ends k m None rest h = tt
+parent_ends k m (Some i) rest h = rest i (or_false (has_chain (parent_links k) m i) false h)
+
+parent_named : (k : SheetRecord) (i : ℕ) → named_by (parent_links k) i ≡ option_to_list (peg_at k i).parent
+parent_named k i = get_or-map (λ (peg : PegRecord). option_to_list peg.parent) k.pegs i no_peg
+
+pub pegs_end : (k : SheetRecord) (m i : ℕ) → has_chain (parent_links k) m i ≡ false → PegsEnd k m (Some i)
+unfolding has_chain PegsEnd
+pegs_end k zero i h = absurd (false≢true (sym h))
+pegs_end k (suc m) i h =
+    parent_ends k m (peg_at k i).parent (pegs_end k m)
+    (subst (λ (l : List ℕ). list_any (has_chain (parent_links k) m) l ≡ false) (parent_named k i) h)
+
+-- ---- sheets
+
+contains_flat : {A : Type 0} (f : A → List ℕ) (xs : List A) (i : ℕ) (d : A) (y : ℕ) → i < length xs → Contains (f (get_or xs i d)) y → Contains (flat_map f xs) y
+contains_flat f [] i d y below c = absurd (omega arith)
+contains_flat f (x ∷ xs) zero d y below c = Contains-append_left (f x) (flat_map f xs) y c
+contains_flat f (x ∷ xs) (suc i) d y below c =
+    Contains-append_right (f x) (flat_map f xs) y (contains_flat f xs i d y (omega arith) c)
+
+shown_has : (P : ℕ → Type 0) (shown : Shown) → ((sheet : ℕ) → Contains (sheet_in shown) sheet → P sheet) → ShownHas P shown
+shown_has P (Drawing level index) h = tt
+shown_has P (Sheet sheet start) h = h sheet (0, omega arith, refl)
+
+sheets_named : (sheets : List SheetRecord) (k : ℕ) → named_by (sheet_links sheets) k ≡ sheets_in (sheet_at sheets k)
+sheets_named sheets k = get_or-map sheets_in sheets k no_sheet
+
+pub sheets_end : (sheets : List SheetRecord) (d k : ℕ) → has_chain (sheet_links sheets) d k ≡ false → SheetsEnd sheets d k
+unfolding has_chain SheetsEnd
+sheets_end sheets zero k h = absurd (false≢true (sym h))
+sheets_end sheets (suc d) k h =
+    λ i no_column below j no_cell inside.
+    let column = get_or (sheet_at sheets k).columns i no_column in
+    shown_has (SheetsEnd sheets d) (get_or column.cells j no_cell).shown
+    (λ sheet named.
+    sheets_end sheets d sheet
+    (none_at (has_chain (sheet_links sheets) d) (sheets_in (sheet_at sheets k)) sheet
+    (subst (λ (l : List ℕ). list_any (has_chain (sheet_links sheets) d) l ≡ false) (sheets_named sheets k) h)
+    (contains_flat (λ (c : ColumnRecord). flat_map (λ e. sheet_in e.shown) c.cells) (sheet_at sheets k).columns i no_column sheet below
+    (contains_flat (λ (e : ExposureRecord). sheet_in e.shown) column.cells j no_cell sheet inside named))))
+
+-- ---- nodes
+
+ref_has : (P : Ref → Type 0) (target : Ref) → ((c : ℕ) → P (ToColumn c)) → ((n : ℕ) → Contains (node_in target) n → P (ToNode n)) → P target
+ref_has P (ToColumn c) columns nodes = columns c
+ref_has P (ToNode n) columns nodes = nodes n (0, omega arith, refl)
+
+inputs_have : (P : Ref → Type 0) (node : Node) → ((c : ℕ) → P (ToColumn c)) → ((n : ℕ) → Contains (nodes_in node) n → P (ToNode n)) → InputsHave P (Some node)
+inputs_have P (Pair op first second) columns nodes = (
+  ref_has P first columns (λ n c. nodes n (Contains-append_left (node_in first) (node_in second) n c)),
+  ref_has P second columns (λ n c. nodes n (Contains-append_right (node_in first) (node_in second) n c)),
+)
+inputs_have P (Card style) columns nodes = tt
+inputs_have P (Shuffle input list) columns nodes = ref_has P input columns nodes
+inputs_have P (Blur input radius) columns nodes = ref_has P input columns nodes
+inputs_have P (Keep input styles) columns nodes = ref_has P input columns nodes
+inputs_have P (Delete input styles) columns nodes = ref_has P input columns nodes
+
+inputs_at : (P : Ref → Type 0) (list : List Node) (i : ℕ) → ((c : ℕ) → P (ToColumn c)) → ((n : ℕ) → Contains (get_or (map nodes_in list) i []) n → P (ToNode n)) → InputsHave P (slice_get list i)
+inputs_at P [] i columns nodes = tt
+inputs_at P (node ∷ list) zero columns nodes = inputs_have P node columns nodes
+inputs_at P (node ∷ list) (suc i) columns nodes = inputs_at P list i columns nodes
+
+columns_end : (k : SheetRecord) (m c : ℕ) → NodesEnd k m (ToColumn c)
+unfolding NodesEnd
+columns_end k zero c = tt
+columns_end k (suc m) c = tt
+
+pub nodes_end : (k : SheetRecord) (m n : ℕ) → has_chain (input_links k) m n ≡ false → NodesEnd k m (ToNode n)
+unfolding has_chain NodesEnd
+nodes_end k zero n h = absurd (false≢true (sym h))
+nodes_end k (suc m) n h =
+    inputs_at (NodesEnd k m) k.nodes n (columns_end k m)
+    (λ i named. nodes_end k m i (none_at (has_chain (input_links k) m) (named_by (input_links k) n) i h named))

@@ -1,0 +1,7 @@
+pub mod Findings
+pub mod Chains
+pub mod Searches
+pub mod Endings
+pub mod Goods
+pub mod Repeats
+pub mod FirstTold

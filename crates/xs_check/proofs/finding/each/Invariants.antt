@@ -1,0 +1,10 @@
+use Rattle.std.proofs.Common.{drop}
+use Rattle.xs_json.specs.Paths.{index_at}
+use Rattle.xs_check.specs.Finding.{Each}
+use Rattle.xs_check.proofs.Findings.{Covers}
+use Rattle.xs_check.proofs.finding.each.Given as goal
+
+abbrev pub invariant-loop-i : goal.invariant-loop-i
+invariant-loop-i g l =
+    Covers (Each (λ i x. g.R.Rule.finds l.rule (index_at l.at i) x) l.i (drop l.i l.items))
+    (Each (λ i x. g.R.Rule.finds l.rule (index_at l.at i) x) 0 l.items)

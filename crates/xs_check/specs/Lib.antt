@@ -1,0 +1,6 @@
+pub mod Finding
+pub mod Ways
+pub mod Search
+pub mod Links
+pub mod Good
+pub mod Passes

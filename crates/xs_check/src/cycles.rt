@@ -1,0 +1,165 @@
+//! Pegs, nodes and sheets that lead back to themselves, and chains of them that are too long.
+ghost use Rattle.std.specs.Prelude.{◌≡◌, ◌<◌, IfOk, length, map};
+ghost use Rattle.xs_check.specs.Finding.{Finds, TellsFirst};
+ghost use Rattle.xs_check.specs.Passes.{sheets_at, PegCycles, NodeCycles, SheetCycles, LongChains, NoCycles, NoLongChains};
+ghost use Rattle.xs_check.specs.Ways.{LiesOnCycle, IsFirstWithout};
+
+use crate::finding::{Rule, each};
+use crate::links::{Naming, links_of};
+use crate::overlaps::fault_of;
+use crate::search::first_on_cycle;
+use crate::ways::first_long;
+use std::alloc::{AllocError, Global};
+use xs_json::{Field, FieldFault, Path, Place, SceneCode};
+use xs_pixel::List;
+use xs_scene::{Scene, Sheet};
+
+/// The fault at the first of some elements, if there is one.
+fn tell_first(
+    alloc: Global,
+    first: Option<usize>,
+    code: SceneCode,
+    at: &Path,
+) -> Result<(), FieldFault>
+    ensures { TellsFirst code at.now first result }
+{
+    match first {
+        Some(i) => Err(fault_of(alloc, code, at, i)),
+        None => Ok(()),
+    }
+}
+
+/// The first thing on a cycle. Where no chain has `steps` more things after it, nothing is on a cycle.
+fn first_cycle(
+    alloc: Global,
+    links: &List<List<u32>>,
+    steps: u32,
+) -> Result<Option<usize>, AllocError>
+    requires { 0 < steps }
+    ensures { IfOk result (IsFirstWithout (λ a. LiesOnCycle links.now a → ⊥) (length links.now)) }
+{
+    match first_long(alloc, links, steps)? {
+        Some(_) => first_on_cycle(alloc, links),
+        None => Ok(None),
+    }
+}
+
+/// The fault at the first of some things that lies on a cycle. No chain of things that do not has `steps`
+/// more after its first, or it is found by a longer search.
+fn no_cycles<T: Naming>(
+    alloc: Global,
+    things: &[T],
+    steps: u32,
+    code: SceneCode,
+    at: &Path,
+) -> Result<(), FieldFault>
+    requires { 0 < steps }
+    ensures { Finds result (NoCycles code (map T.named things.now) at.now things.now) }
+{
+    let links = links_of(alloc, things)?;
+    let first = first_cycle(alloc, &links, steps)?;
+    tell_first(alloc, first, code, at)
+}
+
+/// The fault at the first of some things at which a chain begins that has more than `most`.
+fn no_long_chains<T: Naming>(
+    alloc: Global,
+    things: &[T],
+    most: u32,
+    at: &Path,
+) -> Result<(), FieldFault>
+    requires { 0 < most }
+    ensures { Finds result (NoLongChains most (map T.named things.now) at.now things.now) }
+{
+    let links = links_of(alloc, things)?;
+    let first = first_long(alloc, &links, most)?;
+    tell_first(alloc, first, SceneCode::TooMany, at)
+}
+
+/// The pegs of a sheet that lie on a cycle of parents.
+#[derive(Drop)]
+struct PegCycle;
+
+impl Rule<Sheet> for PegCycle {
+    ghost use Rattle.xs_check.specs.Passes.{SheetPegCycles};
+
+    ghost finds = { λ _. SheetPegCycles };
+
+    fn look(&self, alloc: Global, item: &Sheet, at: &Place) -> Result<(), FieldFault> {
+        let path = at.path(alloc)?;
+        let pegs = Place::key(&path, Field::Pegs).path(alloc)?;
+        no_cycles(alloc, item.pegs.items(), 64, SceneCode::PegCycle, &pegs)
+    }
+}
+
+/// The nodes of a sheet that lie on a cycle of inputs.
+#[derive(Drop)]
+struct NodeCycle;
+
+impl Rule<Sheet> for NodeCycle {
+    ghost use Rattle.xs_check.specs.Passes.{SheetNodeCycles};
+
+    ghost finds = { λ _. SheetNodeCycles };
+
+    fn look(&self, alloc: Global, item: &Sheet, at: &Place) -> Result<(), FieldFault> {
+        let path = at.path(alloc)?;
+        let nodes = Place::key(&path, Field::Nodes).path(alloc)?;
+        no_cycles(alloc, item.nodes.items(), 256, SceneCode::NodeCycle, &nodes)
+    }
+}
+
+/// The pegs of a sheet at which a chain of more than 64 pegs begins.
+#[derive(Drop)]
+struct LongChain;
+
+impl Rule<Sheet> for LongChain {
+    ghost use Rattle.xs_check.specs.Passes.{SheetLongChains};
+
+    ghost finds = { λ _. SheetLongChains };
+
+    fn look(&self, alloc: Global, item: &Sheet, at: &Place) -> Result<(), FieldFault> {
+        let path = at.path(alloc)?;
+        let pegs = Place::key(&path, Field::Pegs).path(alloc)?;
+        no_long_chains(alloc, item.pegs.items(), 64, &pegs)
+    }
+}
+
+/// The first peg that is its own ancestor.
+pub fn peg_cycles(alloc: Global, scene: &Scene, sheets: &Path) -> Result<(), FieldFault>
+    requires { sheets.now ≡ sheets_at }
+    ensures { Finds result (PegCycles scene.now) }
+{
+    each(alloc, &PegCycle, scene.sheets.items(), sheets)
+}
+
+/// The first node that is among its own inputs.
+pub fn node_cycles(alloc: Global, scene: &Scene, sheets: &Path) -> Result<(), FieldFault>
+    requires { sheets.now ≡ sheets_at }
+    ensures { Finds result (NodeCycles scene.now) }
+{
+    each(alloc, &NodeCycle, scene.sheets.items(), sheets)
+}
+
+/// The first sheet that shows itself.
+pub fn sheet_cycles(alloc: Global, scene: &Scene, sheets: &Path) -> Result<(), FieldFault>
+    requires { sheets.now ≡ sheets_at }
+    ensures { Finds result (SheetCycles scene.now) }
+{
+    no_cycles(
+        alloc,
+        scene.sheets.items(),
+        16,
+        SceneCode::SheetCycle,
+        sheets,
+    )
+}
+
+/// The first peg at which a chain of more than 64 pegs begins; without one, the first sheet at which a
+/// chain of more than 16 nested sheets begins.
+pub fn long_chains(alloc: Global, scene: &Scene, sheets: &Path) -> Result<(), FieldFault>
+    requires { sheets.now ≡ sheets_at }
+    ensures { Finds result (LongChains scene.now) }
+{
+    each(alloc, &LongChain, scene.sheets.items(), sheets)?;
+    no_long_chains(alloc, scene.sheets.items(), 16, sheets)
+}

@@ -1,0 +1,38 @@
+ghost use Rattle.std.specs.Prelude.{ℕ};
+ghost use Rattle.std.specs.Prelude.{List as Items};
+ghost use Rattle.xs_check.specs.Finding.{Finding, Finds, EachAt};
+
+use std::alloc::Global;
+use xs_json::{FieldFault, Path, Place};
+
+/// What is looked for in each element of a list.
+pub trait Rule<T> {
+    /// What is found in an element at a path.
+    ghost finds: { Self → Items ℕ → T → Finding };
+
+    /// The first fault of an element at a place.
+    fn look(&self, alloc: Global, item: &T, at: &Place) -> Result<(), FieldFault>
+        ensures { Finds result (finds self.now at.now item.now) };
+}
+
+/// The first fault of the elements of the list at `at`, in their order.
+#[tactic(auto, unfolding(crate::specs::Finding::EachAt))]
+pub fn each<T, R: Rule<T>>(
+    alloc: Global,
+    rule: &R,
+    items: &[T],
+    at: &Path,
+) -> Result<(), FieldFault>
+    ensures { Finds result (EachAt at.now (R.finds rule.now) items.now) }
+{
+    for (i, item) in items.iter().enumerate() {
+        let Ok(i) = u32::try_from(i) else {
+            return Err(FieldFault::Memory);
+        };
+        let looked = rule.look(alloc, item, &Place::item(at, i));
+        if looked.is_err() {
+            return looked;
+        }
+    }
+    Ok(())
+}

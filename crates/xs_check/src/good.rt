@@ -1,0 +1,84 @@
+//! A scene that has been checked.
+ghost use Rattle.std.specs.Prelude.{◌≡◌, IfOk};
+ghost use Rattle.xs_check.specs.Finding.{Finds};
+ghost use Rattle.xs_check.specs.Passes.{Checking};
+
+use crate::cycles::{long_chains, node_cycles, peg_cycles, sheet_cycles};
+use crate::overlaps::overlaps;
+use crate::references::references;
+use crate::sizes::sizes;
+use std::alloc::Global;
+use std::marker::Model;
+use xs_json::{Field, FieldFault, Path, Place};
+use xs_scene::{Scene, Sheet};
+
+/// A scene in which every number names a thing, nothing stands twice where one may, nothing leads back to
+/// itself, and every size is within its limit.
+#[derive(Debug, Drop)]
+pub struct GoodScene {
+    scene: Scene,
+}
+
+impl Model for GoodScene {
+    ghost use Rattle.xs_scene.specs.Records.{SceneRecord};
+
+    ghost Value = { SceneRecord };
+
+    ghost use Rattle.xs_check.specs.Good.{IsGood};
+
+    ghost view = { λ g. g.scene };
+
+    ghost invariant = { λ g. IsGood g.scene };
+}
+
+/// The first fault, in the order of the passes.
+fn first_fault(alloc: Global, scene: &Scene) -> Result<(), FieldFault>
+    ensures { Finds result (Checking scene.now) }
+{
+    sizes(alloc, scene)?;
+    references(alloc, scene)?;
+    overlaps(alloc, scene)?;
+    let top = Path::root(alloc);
+    let sheets = Place::key(&top, Field::Sheets).path(alloc)?;
+    peg_cycles(alloc, scene, &sheets)?;
+    node_cycles(alloc, scene, &sheets)?;
+    sheet_cycles(alloc, scene, &sheets)?;
+    long_chains(alloc, scene, &sheets)
+}
+
+/// The checked scene, or its first fault in the order of the passes: TooMany where a list is too long;
+/// NoSuchReference where a number names nothing; Overlap where something stands where an earlier thing
+/// stands; PegCycle, NodeCycle and SheetCycle for what leads back to itself; TooMany where a chain of
+/// pegs or of nested sheets is too long. A refused scene is dropped.
+pub fn check(alloc: Global, s: Scene) -> Result<GoodScene, FieldFault>
+    ensures checked { Finds result (Checking s) }
+    ensures same { IfOk result (λ g. g ≡ s) }
+{
+    first_fault(alloc, &s)?;
+    s.in_range();
+    Ok(GoodScene { scene: s })
+}
+
+impl GoodScene {
+    ghost use Rattle.std.specs.Prelude.{◌≡◌, ◌<◌, length};
+    ghost use Rattle.xs_meaning.specs.Walk.{sheet_at};
+    ghost use Rattle.xs_check.specs.Good.{IsGood, IsGoodSheet};
+
+    /// The scene.
+    pub fn scene(&self) -> &Scene
+        ensures value { result.now ≡ self.now }
+        ensures good { IsGood self.now }
+    {
+        &self.scene
+    }
+
+    /// The sheet with a number.
+    pub fn sheet(&self, k: u32) -> &Sheet
+        requires { k < length self.now.sheets }
+        ensures value { result.now ≡ sheet_at self.now.sheets k }
+        ensures good { IsGoodSheet self.now result.now }
+    {
+        let scene = &self.scene;
+        &scene.sheets.items()[k as usize]
+    }
+}

@@ -1,0 +1,16 @@
+//! Checking a scene: every number names a thing, nothing stands twice where one may, nothing leads back
+//! to itself, and every size is within its limit. What passes is a `GoodScene`.
+#![tactic(auto)]
+
+pub mod cycles;
+pub mod files;
+pub mod finding;
+pub mod good;
+pub mod links;
+pub mod overlaps;
+pub mod references;
+pub mod search;
+pub mod sizes;
+pub mod ways;
+
+pub use good::{GoodScene, check};

@@ -1,0 +1,87 @@
+//! Chains and cycles of things that name one another, as pegs their parents. How long chains are is told
+//! by as many rounds over all things: after each, a mark says whether a chain of one step more begins
+//! there. Only where a chain is too long is each thing asked whether a way leads back to it.
+ghost use Rattle.std.specs.Prelude.{◌≡◌, ◌<◌, IfOk, IsTrue, ℕ, false, length, map, slice_index_or};
+ghost use Rattle.std.specs.List.{list_any};
+ghost use Rattle.xs_check.specs.Ways.{TellChains, HasChain, LiesOnCycle, IsFirstWithout};
+
+use std::alloc::{AllocError, Global};
+use xs_pixel::List;
+
+/// The mark of a number, or the given one past the marks.
+fn mark_of(marks: &[bool], number: u32, outside: bool) -> bool
+    ensures { result ≡ slice_index_or marks.now number outside }
+{
+    match marks.get(number as usize) {
+        Some(mark) => *mark,
+        None => outside,
+    }
+}
+
+/// Whether one of the numbers is marked.
+fn names_marked(named: &[u32], marks: &[bool], outside: bool) -> bool
+    ensures { result ≡ list_any (λ c. slice_index_or marks.now c outside) named.now }
+{
+    named.iter().any(|&number| mark_of(marks, number, outside))
+}
+
+/// Marks the things that name a marked one.
+fn longer(
+    alloc: Global,
+    links: &List<List<u32>>,
+    marks: &[bool],
+    outside: bool,
+) -> Result<Vec<bool>, AllocError>
+    ensures { IfOk result (λ v. v.items ≡ map (λ named. list_any (λ c. slice_index_or marks.now c outside) named) links.now) }
+{
+    let longer: Vec<bool> = links
+        .items()
+        .iter()
+        .map(|named| names_marked(named.items(), marks, outside))
+        .collect(alloc)?;
+    Ok(longer)
+}
+
+/// The same mark for each thing.
+pub fn marks_of(alloc: Global, links: &List<List<u32>>, mark: bool) -> Result<Vec<bool>, AllocError>
+    ensures { IfOk result (λ v. v.items ≡ map (λ named. mark) links.now) }
+{
+    let marks: Vec<bool> = links.items().iter().map(|_| mark).collect(alloc)?;
+    Ok(marks)
+}
+
+/// Marks the things at which a chain begins that has `steps` more after it.
+pub fn chains(alloc: Global, links: &List<List<u32>>, steps: u32) -> Result<Vec<bool>, AllocError>
+    ensures { IfOk result (λ v. TellChains links.now steps v.items) }
+{
+    let mut marks = marks_of(alloc, links, true)?;
+    for step in 0..steps {
+        marks = longer(alloc, links, &marks, step == 0)?;
+    }
+    Ok(marks)
+}
+
+/// The first marked number.
+fn first_marked(marks: &[bool]) -> Option<usize>
+    ensures { IsFirstWithout (λ i. slice_index_or marks.now i false ≡ false) (length marks.now) result }
+{
+    for (i, mark) in marks.iter().enumerate() {
+        if *mark {
+            return Some(i);
+        }
+    }
+    None
+}
+
+/// The first thing at which a chain begins that has `steps` more after it.
+pub fn first_long(
+    alloc: Global,
+    links: &List<List<u32>>,
+    steps: u32,
+) -> Result<Option<usize>, AllocError>
+    requires { 0 < steps }
+    ensures { IfOk result (IsFirstWithout (λ a. HasChain links.now steps a → ⊥) (length links.now)) }
+{
+    let marks = chains(alloc, links, steps)?;
+    Ok(first_marked(&marks))
+}
