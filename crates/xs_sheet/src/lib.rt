@@ -8,6 +8,3 @@ pub mod pegs;
 
 pub use cells::cell;
 pub use pegs::place;
-
-#[cfg(test)]
-mod tests;
