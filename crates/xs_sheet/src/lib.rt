@@ -8,3 +8,6 @@ pub mod pegs;
 
 pub use cells::cell;
 pub use pegs::place;
+
+#[cfg(test)]
+mod tests;
