@@ -15,3 +15,6 @@ mod work;
 mod written;
 
 pub use scene::{decode, encode};
+
+#[cfg(test)]
+mod tests;

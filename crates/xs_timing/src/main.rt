@@ -3,16 +3,35 @@
 #![tactic(auto)]
 
 mod kernels;
+mod scene_text;
 mod tiles;
 
+use std::rt::Clock;
 use std::{env, io};
 
+/// Times the reading or the writing of a scene text of so many MiB.
+fn time_text<R: Print + Clock + AllocGlobal>(
+    rt: &R,
+    part: &str,
+    size: Option<String>,
+) -> io::Result<()> {
+    let Some(Ok(size)) = size.map(|word| word.as_str().parse::<u16>()) else {
+        return println!(rt; "xs_timing: {part} wants a number of MiB");
+    };
+    match part {
+        "decode" => scene_text::time_decode(rt, rt.alloc(), size),
+        _ => scene_text::time_encode(rt, rt.alloc(), size),
+    }
+}
+
 fn main(rt: HostRuntime) -> io::Result<()> {
-    match env::args(&rt)?.nth(1) {
+    let mut words = env::args(&rt)?;
+    match words.nth(1) {
         None => println!(rt; "xs_timing: name a part to time"),
         Some(part) => match part.as_str() {
             "kernels" => kernels::time(&rt, rt.alloc()),
             "kernel-bytes" => kernels::write_bytes(&rt, rt.alloc()),
+            "decode" | "encode" => time_text(&rt, part.as_str(), words.next()),
             other => println!(rt; "xs_timing: there is no part {other}"),
         },
     }
