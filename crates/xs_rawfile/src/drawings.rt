@@ -10,6 +10,7 @@ use xs_pixel::{Film, List, Memory};
 
 /// The drawings of a render that are held in memory, by number, and the palettes under which CM32
 /// drawings are seen. Where the film tells its pictures, each drawing that is held is its picture.
+#[derive(Drop)]
 pub struct Drawings<K: Film> {
     slots: Vec<Option<(Drawing, Option<u32>)>>,
     palettes: List<Palette>,
@@ -96,3 +97,11 @@ fn named(palettes: &[Palette], number: Option<u32>) -> Option<&Palette>
         None => None,
     }
 }
+
+/// Drawings may be sent to another thread, and shared with it, where their film may.
+pub fn drawings_cross_threads<K: Film + Send + Sync>() {
+    crosses_threads::<Drawing>();
+    crosses_threads::<Drawings<K>>();
+}
+
+fn crosses_threads<T: Send + Sync>() {}
