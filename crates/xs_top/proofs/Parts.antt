@@ -1,0 +1,68 @@
+-- Parts of a run, one after another.
+use Rattle.std.proofs.Common.{◌≡◌, List, [], ◌∷◌, ◌++◌, refl, sym, ap, ◌∙◌, append_assoc, ◌⊎◌, inl, inr}
+use Rattle.xs_outside.specs.Told.{more}
+use Rattle.xs_outside.proofs.Growth.{more-nothing, more-more}
+use Rattle.xs_top.specs.declared.status.Status.{Status}
+use Rattle.xs_top.specs.declared.status.Status.TheVariants as answers
+use Rattle.xs_top.specs.Trace.{Event, Ask, Place, Line, asks, puts, lines, Outcome, after, Seen, grown}
+use Rattle.xs_top.specs.Runs.{Did, Stopped, StoppedAsking, StoppedPlacing, StoppedNoting}
+
+-- ---- the three readings of a list of events
+
+pub asks-append : (first then : List Event) → asks (first ++ then) ≡ asks first ++ asks then
+asks-append [] then = refl
+asks-append (Ask name ∷ first) then = ap (λ names. name ∷ names) (asks-append first then)
+asks-append (Place object ∷ first) then = asks-append first then
+asks-append (Line line ∷ first) then = asks-append first then
+
+pub puts-append : (first then : List Event) → puts (first ++ then) ≡ puts first ++ puts then
+puts-append [] then = refl
+puts-append (Ask name ∷ first) then = puts-append first then
+puts-append (Place object ∷ first) then = ap (λ objects. object ∷ objects) (puts-append first then)
+puts-append (Line line ∷ first) then = puts-append first then
+
+pub lines-append : (first then : List Event) → lines (first ++ then) ≡ lines first ++ lines then
+lines-append [] then = refl
+lines-append (Ask name ∷ first) then = lines-append first then
+lines-append (Place object ∷ first) then = lines-append first then
+lines-append (Line line ∷ first) then =
+    ap (λ bytes. line ++ 10 ∷ bytes) (lines-append first then) ∙ sym (append_assoc line (10 ∷ lines first) (lines then))
+
+-- ---- what is told after events
+
+pub grown-nothing : (seen : Seen) → grown seen [] ≡ seen
+grown-nothing seen = simp more-nothing
+
+pub grown-grown : (seen : Seen) (first then : List Event) → grown (grown seen first) then ≡ grown seen (first ++ then)
+grown-grown seen first then = simp (more-more, asks-append, puts-append, lines-append)
+
+after-after : (first then : List Event) (left : Outcome) → after first (after then left) ≡ after (first ++ then) left
+after-after first then left = simp append_assoc
+
+-- ---- parts
+
+pub did_nothing : (all : Outcome) (seen : Seen) → Did all all seen seen
+did_nothing all seen = record { done = []; split = refl; told = sym (grown-nothing seen) }
+
+pub did_then : {a b c : Outcome} {s t u : Seen} → Did a b s t → Did b c t u → Did a c s u
+did_then {a} {b} {c} {s} {t} {u} first then = record {
+  done = first.done ++ then.done;
+  split = first.split ∙ (ap (after first.done) then.split ∙ after-after first.done then.done c);
+  told = then.told ∙ (ap (λ seen. grown seen then.done) first.told ∙ grown-grown s first.done then.done);
+}
+
+pub stopped_then : (a b : Outcome) (s t u : Seen) (status : Status) → Did a b s t → Stopped b t u status → Stopped a s u status
+stopped_then a b s t u answers.ReadFault first then =
+    record { name = then.name; left = then.left; whole = then.whole; did = did_then first then.did; asked = then.asked }
+stopped_then a b s t u answers.WriteFault first (inl then) =
+    inl (record { object = then.object; left = then.left; did = did_then first then.did })
+stopped_then a b s t u answers.WriteFault first (inr then) =
+    inr (record { line = then.line; left = then.left; last = then.last; whole = then.whole; did = did_then first then.did; broke = then.broke })
+stopped_then a b s t u answers.Memory first then = (then.0, did_then first then.1)
+stopped_then a b s t u answers.Ok first then = did_then first then
+stopped_then a b s t u (answers.Usage usage) first then = did_then first then
+stopped_then a b s t u answers.NotYet first then = did_then first then
+
+-- the rest may be named in another way
+pub did_to : (all b c : Outcome) (s t : Seen) → Did all b s t → b ≡ c → Did all c s t
+did_to all b c s t d e = rw (← e) d

@@ -1,0 +1,81 @@
+-- What a whole run has done, from the part that it did.
+use Rattle.std.proofs.Common.{◌≡◌, ℕ, List, [], ◌∷◌, ◌++◌, length, take, drop, refl, sym, ap, ◌∙◌, ◌⊎◌, inl, inr, Option, true, append_assoc}
+use Rattle.std.proofs.Math.Seq.{take-append_seam}
+use Rattle.std.proofs.lemmas.Bool.{false≢true}
+use Rattle.std.proofs.lemmas.List.{append-nil, take-append-drop}
+use Rattle.xs_outside.specs.declared.object.Object.{Object}
+use Rattle.xs_outside.specs.Told.{more}
+use Rattle.xs_outside.proofs.Growth.{more-nothing, more-more}
+use Rattle.xs_top.specs.declared.status.Status.{Status}
+use Rattle.xs_top.specs.declared.status.Status.TheVariants as answers
+use Rattle.xs_top.specs.Trace.{Event, Ask, Place, Line, asks, puts, lines, Outcome, ended, after, Seen, grown}
+use Rattle.xs_top.specs.Runs.{Did, Stopped, StoppedAsking, StoppedNoting, GainedFront, is_broken, IsRun}
+use Rattle.xs_top.proofs.Parts.{asks-append, puts-append, lines-append, did_then}
+
+-- a list that came to what is told is a front part of a longer one
+front : {A : Type 0} (before now : Option (List A)) (part rest all : List A) → now ≡ more before part → all ≡ part ++ rest → (n : ℕ) × (now ≡ more before (take n all))
+front before now part rest all told split =
+    (length part, rw (split, take-append_seam) told)
+
+did_front : (all left : Outcome) (before now : Seen) → Did all left before now → GainedFront all before now
+did_front all left before now did = record {
+  asked = front _ _ (asks did.done) (asks left.work) _ (ap (λ seen. seen.asked) did.told) (ap (λ o. asks o.work) did.split ∙ asks-append did.done left.work);
+  shelf = front _ _ (puts did.done) (puts left.work) _ (ap (λ seen. seen.shelf) did.told) (ap (λ o. puts o.work) did.split ∙ puts-append did.done left.work);
+  notes = front _ _ (lines did.done) (lines left.work) _ (ap (λ seen. seen.notes) did.told) (ap (λ o. lines o.work) did.split ∙ lines-append did.done left.work);
+}
+
+-- where nothing is left, all the work was done
+did_whole : (all : Outcome) (status : Status) (before now : Seen) → Did all (ended status) before now → now ≡ grown before all.work
+did_whole all status before now did =
+    did.told ∙ ap (grown before) (sym (ap (λ o. o.work) did.split ∙ append-nil did.done))
+
+pub whole_run : (all : Outcome) (status : Status) (before now : Seen) → Did all (ended status) before now → (status ≡ answers.ReadFault → ⊥) → IsRun all before now status
+whole_run all status before now did other = record {
+  answer = λ _. sym (ap (λ o. o.status) did.split);
+  whole = λ _. did_whole all status before now did;
+  front = did_front all (ended status) before now did;
+  read = λ e. absurd (other e);
+}
+
+-- the file that was asked for in vain was asked for
+asked_part : (all : Outcome) (before now : Seen) (stopped : StoppedAsking all before now) → Did all stopped.left before now
+asked_part all before now stopped =
+    did_then stopped.did (record { done = Ask stopped.name ∷ []; split = refl; told = stopped.asked })
+
+-- a line that broke off
+line_front : (before whole now : Option (List ℕ)) (done line rest all : List ℕ) (n : ℕ) → whole ≡ more before done → now ≡ more whole (take n line) → all ≡ done ++ (line ++ rest) → (n : ℕ) × (now ≡ more before (take n all))
+line_front before whole now done line rest all n told broke split =
+    front before now (done ++ take n line) (drop n line ++ rest) all
+    (broke ∙ (ap (λ notes. more notes (take n line)) told ∙ more-more before done (take n line)))
+    (split ∙ (ap (λ l. done ++ (l ++ rest)) (sym (take-append-drop n line)) ∙ simp append_assoc))
+
+noting_front : (all : Outcome) (before now : Seen) → StoppedNoting all before now → GainedFront all before now
+noting_front all before now stopped =
+    let whole = did_front all _ before stopped.whole stopped.did in
+    record {
+      asked = (whole.asked.0, ap (λ seen. seen.asked) stopped.broke.told ∙ whole.asked.1);
+      shelf = (whole.shelf.0, ap (λ seen. seen.shelf) stopped.broke.told ∙ whole.shelf.1);
+      notes = line_front _ stopped.whole.notes _ (lines stopped.did.done) (stopped.line ++ 10 ∷ []) (lines stopped.left.work) _ stopped.broke.written
+          (ap (λ seen. seen.notes) stopped.did.told) (ap (λ seen. seen.notes) stopped.broke.told)
+          (ap (λ o. lines o.work) stopped.did.split ∙ (lines-append stopped.did.done _ ∙ ap (λ bytes. lines stopped.did.done ++ bytes) (simp append_assoc)));
+    }
+
+broken_run : (all : Outcome) (before now : Seen) (status : Status) → is_broken status ≡ true → GainedFront all before now → (status ≡ answers.ReadFault → StoppedAsking all before now) → IsRun all before now status
+broken_run all before now status broken front read =
+    record { answer = λ e. absurd (false≢true (sym e ∙ broken)); whole = λ e. absurd (false≢true (sym e ∙ broken)); front = front; read = read }
+
+pub stopped_run : (all : Outcome) (before now : Seen) (status : Status) → Stopped all before now status → IsRun all before now status
+stopped_run all before now answers.ReadFault stopped =
+    broken_run all before now _ refl (did_front all _ before now (asked_part all before now stopped)) (λ _. stopped)
+stopped_run all before now answers.WriteFault (inl stopped) = broken_run all before now _ refl (did_front all _ before now stopped.did) (λ e. cc)
+stopped_run all before now answers.WriteFault (inr stopped) = broken_run all before now _ refl (noting_front all before now stopped) (λ e. cc)
+stopped_run all before now answers.Memory stopped = broken_run all before now _ refl (did_front all _ before now stopped.1) (λ e. cc)
+stopped_run all before now answers.Ok did = whole_run all _ before now did (λ e. cc)
+stopped_run all before now (answers.Usage usage) did = whole_run all _ before now did (λ e. cc)
+stopped_run all before now answers.NotYet did = whole_run all _ before now did (λ e. cc)
+
+-- where no file is left to be put on the shelf, all stand there
+pub all_placed : (all left : Outcome) (before now : Seen) → Did all left before now → puts left.work ≡ [] → now.shelf ≡ more before.shelf (puts all.work)
+all_placed all left before now did none =
+    ap (λ seen. seen.shelf) did.told ∙ ap (more before.shelf)
+    (sym (ap (λ o. puts o.work) did.split ∙ (puts-append did.done left.work ∙ (ap (λ objects. puts did.done ++ objects) none ∙ append-nil (puts did.done)))))

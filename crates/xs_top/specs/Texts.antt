@@ -1,0 +1,42 @@
+use Rattle.std.specs.Prelude.{◌≡◌, ℕ, List, [], ◌++◌, codes, decimal}
+use Rattle.xs_words.specs.declared.fault.Usage.{Usage}
+use Rattle.xs_words.specs.declared.fault.Usage.TheVariants as usage
+use Rattle.xs_words.specs.declared.fault.WordsFault.{WordsFault}
+use Rattle.xs_words.specs.declared.fault.WordsFault.TheVariants as words
+use Rattle.xs_top.specs.declared.status.Status.{Status}
+use Rattle.xs_top.specs.declared.status.Status.TheVariants as answers
+
+-- the number with which the program ends
+abbrev pub number_of : Status → ℕ
+number_of answers.Ok = 0
+number_of (answers.Usage usage) = 1
+number_of answers.ReadFault = 4
+number_of answers.WriteFault = 5
+number_of answers.Memory = 6
+number_of answers.NotYet = 8
+
+abbrev about_word : List ℕ → ℕ → List ℕ → List ℕ
+about_word before word behind = (before ++ decimal word) ++ behind
+
+-- what is wrong with the words; words are counted from 1, the command
+abbrev pub usage_text_of : Usage → List ℕ
+usage_text_of usage.NoCommand = codes "usage 1: no command"
+usage_text_of usage.Unknown = codes "usage 2: unknown command"
+usage_text_of usage.Count = codes "usage 3: wrong number of words"
+usage_text_of (usage.Number word) = about_word (codes "usage 4: word ") word (codes " is not a number")
+usage_text_of (usage.Range word) = about_word (codes "usage 5: word ") word (codes " is out of range")
+usage_text_of (usage.Name word) = about_word (codes "usage 6: word ") word (codes " is not a name")
+
+-- what the user reads
+abbrev pub text_of : Status → List ℕ
+text_of answers.Ok = []
+text_of (answers.Usage usage) = usage_text_of usage
+text_of answers.ReadFault = codes "read fault"
+text_of answers.WriteFault = codes "write fault"
+text_of answers.Memory = codes "out of memory"
+text_of answers.NotYet = codes "not built yet"
+
+-- the status of a fault of the words
+abbrev pub IsStatusOf : WordsFault → Status → Type 0
+IsStatusOf (words.Usage usage) status = status ≡ answers.Usage usage
+IsStatusOf words.Memory status = status ≡ answers.Memory

@@ -1,0 +1,73 @@
+use Rattle.std.specs.Prelude.{ℕ, List, [], ◌∷◌, ◌++◌, Option}
+use Rattle.xs_outside.specs.declared.object.Object.{Object}
+use Rattle.xs_outside.specs.Told.{more}
+use Rattle.xs_top.specs.declared.status.Status.{Status}
+
+-- ---- what a run does
+
+-- a step of a run that the outside sees: a file is asked for, a finished file is put on the shelf, or a
+-- line is written
+pub data Event : Type 0 where
+  Ask : (name : List ℕ) → Event
+  Place : (object : Object) → Event
+  Line : (bytes : List ℕ) → Event
+
+-- the names that are asked for
+abbrev pub asks : List Event → List (List ℕ)
+asks [] = []
+asks (Ask name ∷ events) = name ∷ asks events
+asks (Place object ∷ events) = asks events
+asks (Line bytes ∷ events) = asks events
+
+-- the files that are put on the shelf
+abbrev pub puts : List Event → List Object
+puts [] = []
+puts (Ask name ∷ events) = puts events
+puts (Place object ∷ events) = object ∷ puts events
+puts (Line bytes ∷ events) = puts events
+
+-- the bytes of the lines, each with its end
+abbrev pub lines : List Event → List ℕ
+lines [] = []
+lines (Ask name ∷ events) = lines events
+lines (Place object ∷ events) = lines events
+lines (Line bytes ∷ events) = bytes ++ 10 ∷ lines events
+
+-- what a run over an outside without faults and with enough memory does, in order, and its answer
+pub record Outcome : Type 0 where
+  pub status : Status
+  pub work : List Event
+
+-- the run ends with this answer
+abbrev pub ended : Status → Outcome
+ended status = record { status = status; work = [] }
+
+-- these events, and then what follows
+abbrev pub after : List Event → Outcome → Outcome
+after events next = record { status = next.status; work = events ++ next.work }
+
+-- ---- what the outside tells of it
+
+-- what a library, a shelf and notes tell, each perhaps nothing
+pub record Seen : Type 0 where
+  pub asked : Option (List (List ℕ))
+  pub shelf : Option (List Object)
+  pub notes : Option (List ℕ)
+
+-- what they tell after these events
+abbrev pub grown : Seen → List Event → Seen
+grown seen events = record {
+  asked = more seen.asked (asks events);
+  shelf = more seen.shelf (puts events);
+  notes = more seen.notes (lines events);
+}
+
+-- one of the three tells something else
+abbrev pub with_asked : Seen → Option (List (List ℕ)) → Seen
+with_asked seen asked = record seen { asked = asked }
+
+abbrev pub with_shelf : Seen → Option (List Object) → Seen
+with_shelf seen shelf = record seen { shelf = shelf }
+
+abbrev pub with_notes : Seen → Option (List ℕ) → Seen
+with_notes seen notes = record seen { notes = notes }

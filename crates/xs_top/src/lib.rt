@@ -1,0 +1,24 @@
+//! The top of the renderer: from the words of a command line and an outside to frames on the shelf,
+//! lines in the notes and a status. What a run does is one definition, `outcome` of specs/Outcome:
+//! the files that it asks for, the frames that it puts on the shelf and the lines that it writes, in
+//! order, and its answer; the contract of `run` says what each answer has done of it.
+#![tactic(auto)]
+
+mod colour_file;
+mod frame;
+mod render;
+mod small_scene;
+mod status;
+mod steps;
+
+pub use render::run;
+pub use status::{Status, fault_text, status_number};
+
+/// The most bytes that a scene file may have.
+pub const SCENE_LIMIT: u64 = 16_777_216;
+
+/// The most bytes that the file of a drawing may have.
+pub const DRAWING_LIMIT: u64 = 67_108_885;
+
+#[cfg(test)]
+mod tests;

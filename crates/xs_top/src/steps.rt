@@ -1,0 +1,70 @@
+ghost use Rattle.std.specs.Prelude.{◌≡◌, ◌≤◌, [], List, ℕ, Some, Err, IsErrOf};
+ghost use Rattle.xs_outside.specs.Told.{Rose};
+ghost use Rattle.xs_top.specs.Trace.{Outcome, Seen, puts, with_asked, with_shelf, with_notes};
+ghost use Rattle.xs_top.specs.Runs.{Runs};
+ghost use Rattle.xs_top.specs.Outcome.{Files, asking, placing, noting};
+
+use crate::status::Status;
+use std::alloc::Global;
+use xs_outside::{Fetched, Library, Noted, Notes, Put, Shelf};
+
+/// Asks for a file of at most `limit` bytes.
+pub(crate) fn ask<L: Library>(
+    alloc: Global,
+    lib: &mut L,
+    name: &str,
+    limit: u64,
+) -> Result<Vec<u8>, Status>
+    ensures told { (files : Files) → L.files lib.old ≡ Some files → (next : List ℕ → Outcome) (seen : Seen) →
+        Runs (asking files name.now limit next) (λ bytes. next bytes.items)
+        (with_asked seen (L.asked lib.old)) (with_asked seen (L.asked lib.new)) result }
+    ensures same { L.files lib.new ≡ L.files lib.old }
+    ensures later { L.faults lib.old ≤ L.faults lib.new }
+    ensures read { IsErrOf result Status.ReadFault → Rose (L.faults lib.old) (L.faults lib.new) }
+    ensures write { IsErrOf result Status.WriteFault → ⊥ }
+{
+    match lib.get(alloc, name, limit) {
+        Fetched::Bytes(bytes) => Ok(bytes),
+        Fetched::Absent => Err(Status::NotYet),
+        Fetched::TooLong => Err(Status::NotYet),
+        Fetched::Failed => Err(Status::ReadFault),
+        Fetched::Memory => Err(Status::Memory),
+    }
+}
+
+/// Puts a finished file on the shelf.
+pub(crate) fn place<S: Shelf>(
+    alloc: Global,
+    shelf: &mut S,
+    name: &str,
+    bytes: &[u8],
+) -> Result<(), Status>
+    ensures told { (next : Outcome) (seen : Seen) →
+        Runs (placing (record { name = name.now; bytes = bytes.now }) next) (λ _. next)
+        (with_shelf seen (S.objects shelf.old)) (with_shelf seen (S.objects shelf.new)) result }
+    ensures later { S.faults shelf.old ≤ S.faults shelf.new }
+    ensures read { IsErrOf result Status.ReadFault → ⊥ }
+    ensures write { IsErrOf result Status.WriteFault → Rose (S.faults shelf.old) (S.faults shelf.new) }
+{
+    match shelf.put(alloc, name, bytes) {
+        Put::Done => Ok(()),
+        Put::Failed => Err(Status::WriteFault),
+        Put::Memory => Err(Status::Memory),
+    }
+}
+
+/// Writes a line, behind which no file comes.
+pub(crate) fn note<T: Notes>(alloc: Global, notes: &mut T, line: &[u8]) -> Result<(), Status>
+    ensures told { (next : Outcome) → puts next.work ≡ [] → (seen : Seen) →
+        Runs (noting line.now next) (λ _. next)
+        (with_notes seen (T.written notes.old)) (with_notes seen (T.written notes.new)) result }
+    ensures later { T.faults notes.old ≤ T.faults notes.new }
+    ensures read { IsErrOf result Status.ReadFault → ⊥ }
+    ensures write { IsErrOf result Status.WriteFault → Rose (T.faults notes.old) (T.faults notes.new) }
+{
+    match notes.line(alloc, line) {
+        Noted::Done => Ok(()),
+        Noted::Failed => Err(Status::WriteFault),
+        Noted::Memory => Err(Status::Memory),
+    }
+}
