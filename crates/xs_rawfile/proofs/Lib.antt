@@ -1,3 +1,4 @@
+pub mod Blocks
 pub mod Boxes
 pub mod Faults
 pub mod Holding
