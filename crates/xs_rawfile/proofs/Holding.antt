@@ -76,3 +76,8 @@ pub get_from_index : {A : Type 0} (xs : List A) (i : ℕ) (x : A) → i < length
 get_from_index [] i x within h = absurd (omega arith)
 get_from_index (y ∷ xs) zero x within h = ap Some (sym h)
 get_from_index (y ∷ xs) (suc i) x within h = get_from_index xs i x (omega arith) h
+
+-- what is read under the number of a drawing that is held lies there
+pub held_there : (slots : List (Option (Raw × Option ℕ))) (d : ℕ) (seen slot : Option (Raw × Option ℕ)) → IsSome (option_and_then (λ slot. slot) (slice_get slots d)) → seen ≡ get_or slots d seen → seen ≡ slot → slice_get slots d ≡ Some slot
+held_there slots d seen slot held h is =
+    subst (λ (found : Option (Raw × Option ℕ)). slice_get slots d ≡ Some found) is (get_from_index slots d seen (held_in_range slots d held) h)

@@ -1,3 +1,5 @@
+pub mod Blocks
+pub mod Boxes
 pub mod Faults
 pub mod Holding
 pub mod Laws

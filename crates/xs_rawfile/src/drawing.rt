@@ -1,4 +1,5 @@
-ghost use Rattle.std.specs.Prelude.{◌≡◌, ℕ, ◌*◌, ◌≤◌, ◌↔◌, length, IsTrue, IsSome, IfSome};
+ghost use Rattle.std.specs.Prelude.{◌≡◌, ℕ, ◌*◌, ◌≤◌, ◌↔◌, ◌+◌, ℤ, pos, ◌+ℤ◌, int_le, int_lt, ◌&&◌, true, length, IsTrue, IsSome, IfSome};
+ghost use Rattle.xs_pixel.specs.Picture.{is_in_box, place_in_box};
 ghost use Rattle.std.specs.Simd.Lanes.{Each1};
 ghost use Rattle.xs_pixel.specs.Channels.{IsPixel};
 ghost use Rattle.xs_pixel.specs.Rows.{pixels};
@@ -114,6 +115,28 @@ impl Drawing {
         self.h
     }
 
+    /// Whether a point lies in the box.
+    fn contains(&self, x: i32, y: i32) -> bool
+        ensures { result ≡ is_in_box self.now.x0 self.now.y0 self.now.w self.now.h x y }
+    {
+        lies(self.x0, self.w, x) && lies(self.y0, self.h, y)
+    }
+
+    /// How many pixels come before the one at a point; None beyond the box.
+    pub(crate) fn place(&self, x: i32, y: i32) -> Option<usize>
+        ensures inside { IfSome result (λ at. at ≡ place_in_box self.now.x0 self.now.y0 self.now.w x y) }
+        ensures within { IsSome result ↔ (is_in_box self.now.x0 self.now.y0 self.now.w self.now.h x y ≡ true) }
+        ensures room { IfSome result (λ at. 4 * at + 4 ≤ length self.now.bytes) }
+    {
+        if self.contains(x, y) {
+            let row = y.abs_diff(self.y0) as usize;
+            let column = x.abs_diff(self.x0) as usize;
+            Some(row * self.w as usize + column)
+        } else {
+            None
+        }
+    }
+
     /// What the bytes of a pixel are.
     pub fn kind(&self) -> RawKind
         ensures { result ≡ self.now.kind }
@@ -128,6 +151,14 @@ impl Drawing {
     {
         self.bytes.items()
     }
+}
+
+/// Whether the place is one of the `len` places from `from` on.
+fn lies(from: i32, len: u32, at: i32) -> bool
+    requires { IsPlace from × IsSide len }
+    ensures { result ≡ (int_le from at && int_lt at (from +ℤ pos len)) }
+{
+    from <= at && at < from + len as i32
 }
 
 /// Whether the bytes may stand for pixels of a drawing of this kind.

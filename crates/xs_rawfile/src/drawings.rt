@@ -1,12 +1,13 @@
 ghost use Rattle.std.specs.Prelude.{◌≡◌, ℕ, ◌<◌, ◌↔◌, Option, None, Some, length, replicate, IfOk, IfSome, IsNone, IsSome, slice_get, slice_set};
 ghost use Rattle.xs_rawfile.specs.Held.{Held, held, Names, drawing_in, slot_in, picture_of};
-ghost use Rattle.xs_pixel.specs.Picture.{Picture};
+ghost use Rattle.xs_pixel.specs.Picture.{Picture, pixel_at};
 
 use crate::drawing::Drawing;
+use crate::shown::pixel_under;
 use std::alloc::Global;
 use std::marker::{Model, PhantomData};
 use xs_palette::Palette;
-use xs_pixel::{Film, List, Memory};
+use xs_pixel::{Film, List, Memory, Pixel};
 
 /// The drawings of a render that are held in memory, by number, and the palettes under which CM32
 /// drawings are seen. Where the film tells its pictures, each drawing that is held is its picture.
@@ -70,6 +71,17 @@ impl<K: Film> Drawings<K> {
         match &self.slots[d as usize] {
             Some((drawing, _)) => Some(drawing),
             None => None,
+        }
+    }
+
+    /// The pixel of a drawing's picture at a point, clear beyond its box.
+    pub fn pixel(&self, d: u32, x: i32, y: i32) -> Pixel
+        requires { IsSome (slot_in self.now d) }
+        ensures { IfSome (slot_in self.now d) (λ slot. result ≡ pixel_at (picture_of self.now.palettes slot.0 slot.1) x y) }
+    {
+        match &self.slots[d as usize] {
+            Some((drawing, number)) => pixel_under(drawing, self.palettes.items(), *number, x, y),
+            None => Pixel::CLEAR,
         }
     }
 

@@ -7,6 +7,7 @@ pub mod fault;
 pub mod frame;
 pub mod level;
 mod premultiplied;
+mod shown;
 
 pub use drawing::{Drawing, RawKind};
 pub use drawings::Drawings;
