@@ -1,6 +1,7 @@
 -- What one step of a run did at each answer of the outside.
 use Rattle.std.proofs.Common.{◌≡◌, ℕ, ◌<◌, ◌≤◌, List, [], ◌∷◌, ◌++◌, length, take, refl, sym, ap, ◌∙◌, ◌⊎◌, inl, inr, Option, Some, None, Ok, Err, true, false, arith, rules}
 use Rattle.std.proofs.lemmas.Bool.Decides.{nat_tests}
+use Rattle.xs_raster.specs.Bitmap.{Bitmap}
 use Rattle.xs_outside.specs.declared.object.Object.{Object}
 use Rattle.xs_outside.specs.Told.{more}
 use Rattle.xs_outside.proofs.Growth.{more-nothing}
@@ -9,7 +10,7 @@ use Rattle.xs_top.specs.Trace.{Ask, Place, Line, puts, Outcome, ended, after, Se
 use Rattle.xs_top.specs.declared.TheConstants.{SCENE_LIMIT, DRAWING_LIMIT}
 use Rattle.xs_top.specs.declared.status.Status.{Status}
 use Rattle.xs_top.specs.Small.{SmallSceneRecord, small_scene_of, shows}
-use Rattle.xs_top.specs.ColourFiles.{pixels_of_file}
+use Rattle.xs_top.specs.Drawings.{drawing_of_file}
 use Rattle.xs_words.specs.declared.command.Command.{Command}
 use Rattle.xs_words.specs.declared.fault.WordsFault.{WordsFault}
 use Rattle.xs_words.specs.declared.fault.WordsFault.TheVariants as words_fault
@@ -109,11 +110,11 @@ pub scene_asked : (files : Files) (name : List ℕ) (next : SmallSceneRecord →
 unfolding loading_scene
 scene_asked files name next = refl
 
-pub drawing_asked : (files : Files) (scene : SmallSceneRecord) (row : ℕ) (next : Option (List ℕ) → Outcome) → shows scene.shown row ≡ true → loading_drawing files scene row next ≡ asking files scene.drawing DRAWING_LIMIT (λ bytes. reading (pixels_of_file scene.w scene.h bytes) (λ pixels. next (Some pixels)))
+pub drawing_asked : (files : Files) (scene : SmallSceneRecord) (row : ℕ) (next : Option Bitmap → Outcome) → shows scene.shown row ≡ true → loading_drawing files scene row next ≡ asking files scene.drawing DRAWING_LIMIT (λ bytes. reading (drawing_of_file bytes) (λ drawing. next (Some drawing)))
 unfolding loading_drawing
 drawing_asked files scene row next e = rw e refl
 
-pub no_drawing_asked : (files : Files) (scene : SmallSceneRecord) (row : ℕ) (next : Option (List ℕ) → Outcome) → shows scene.shown row ≡ false → loading_drawing files scene row next ≡ next None
+pub no_drawing_asked : (files : Files) (scene : SmallSceneRecord) (row : ℕ) (next : Option Bitmap → Outcome) → shows scene.shown row ≡ false → loading_drawing files scene row next ≡ next None
 unfolding loading_drawing
 no_drawing_asked files scene row next e = rw e refl
 

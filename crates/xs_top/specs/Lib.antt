@@ -2,6 +2,6 @@ pub mod Trace
 pub mod Runs
 pub mod Texts
 pub mod Small
-pub mod ColourFiles
+pub mod Drawings
 pub mod Frames
 pub mod Outcome

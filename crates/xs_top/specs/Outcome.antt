@@ -1,5 +1,6 @@
 use Rattle.std.specs.Prelude.{ℕ, ◌==◌, List, [], ◌∷◌, length, nat_le, if◌then◌else◌, codes, Option, None, Some, Result, Ok, Err}
 use Rattle.xs_outside.specs.declared.object.Object.{Object}
+use Rattle.xs_raster.specs.Bitmap.{Bitmap}
 use Rattle.xs_words.specs.declared.command.Command.{Command}
 use Rattle.xs_words.specs.declared.command.Command.TheVariants as command
 use Rattle.xs_words.specs.declared.fault.Usage.{Usage}
@@ -9,7 +10,7 @@ use Rattle.xs_top.specs.declared.status.Status.TheVariants as answers
 use Rattle.xs_top.specs.declared.TheConstants.{SCENE_LIMIT, DRAWING_LIMIT}
 use Rattle.xs_top.specs.Trace.{Ask, Place, Line, Outcome, ended, after}
 use Rattle.xs_top.specs.Small.{SmallSceneRecord, small_scene_of, shows}
-use Rattle.xs_top.specs.ColourFiles.{pixels_of_file}
+use Rattle.xs_top.specs.Drawings.{drawing_of_file}
 use Rattle.xs_top.specs.Frames.{frame_name_of, frame_bytes_of}
 
 -- the files of a library by name
@@ -47,24 +48,24 @@ unfoldable pub loading_scene : Files → List ℕ → (SmallSceneRecord → Outc
 loading_scene files name next = asking files name SCENE_LIMIT (λ bytes. reading (small_scene_of bytes) next)
 
 -- the drawing of a scene is loaded, if the row shows it
-unfoldable pub loading_drawing : Files → SmallSceneRecord → ℕ → (Option (List ℕ) → Outcome) → Outcome
+unfoldable pub loading_drawing : Files → SmallSceneRecord → ℕ → (Option Bitmap → Outcome) → Outcome
 loading_drawing files scene row next =
     if shows scene.shown row
-    then asking files scene.drawing DRAWING_LIMIT (λ bytes. reading (pixels_of_file scene.w scene.h bytes) (λ pixels. next (Some pixels)))
+    then asking files scene.drawing DRAWING_LIMIT (λ bytes. reading (drawing_of_file bytes) (λ drawing. next (Some drawing)))
     else next None
 
 -- the frame of a row
-abbrev pub frame_of : List ℕ → SmallSceneRecord → ℕ → Option (List ℕ) → Object
-frame_of base scene row pixels =
-    record { name = frame_name_of base row; bytes = frame_bytes_of scene.w scene.h pixels }
+abbrev pub frame_of : List ℕ → SmallSceneRecord → ℕ → Option Bitmap → Object
+frame_of base scene row drawing =
+    record { name = frame_name_of base row; bytes = frame_bytes_of scene.w scene.h drawing }
 
 -- the line at the end
 unfoldable pub closing : Outcome
 closing = noting (codes "rendered 1 rows") (ended answers.Ok)
 
--- the frame of these pixels is put on the shelf
-abbrev pub showing : List ℕ → SmallSceneRecord → ℕ → Option (List ℕ) → Outcome
-showing base scene row pixels = placing (frame_of base scene row pixels) closing
+-- the frame that shows this drawing or none is put on the shelf
+abbrev pub showing : List ℕ → SmallSceneRecord → ℕ → Option Bitmap → Outcome
+showing base scene row drawing = placing (frame_of base scene row drawing) closing
 
 -- a row of a scene is rendered
 abbrev pub seeing : Files → List ℕ → ℕ → SmallSceneRecord → Outcome

@@ -1,8 +1,13 @@
-ghost use Rattle.std.specs.Prelude.{◌≡◌, ◌≤◌, ◌*◌, ◌^◌, IfOk, string_bytes};
-ghost use Rattle.xs_top.specs.Frames.{frame_name_of, frame_bytes_of};
+ghost use Rattle.std.specs.Prelude.{◌≡◌, IfOk, string_bytes};
+ghost use Rattle.xs_scene.specs.Ranges.{IsSide};
+ghost use Rattle.xs_rect.specs.Tiles.{frame};
+ghost use Rattle.xs_top.specs.Frames.{frame_name_of, frame_bytes_of, picture_of};
 
 use std::alloc::Global;
-use xs_pixel::{List, Memory};
+use xs_pixel::Memory;
+use xs_raster::{Raster, Tile};
+use xs_rawfile::frame_bytes;
+use xs_rect::Rect;
 use xs_scene::Name;
 
 /// The name of the frame of a row: the base, a dot, the row in four digits and `.xfr`.
@@ -18,25 +23,41 @@ pub(crate) fn frame_name(alloc: Global, base: &Name, row: u32) -> Result<String,
     Ok(format!(in alloc; "{base}.{thousands}{hundreds}{tens}{ones}.xfr")?)
 }
 
-/// The bytes of a frame of `w` by `h` pixels that shows these, or no drawing.
+/// The bytes of the frame file of `w` by `h` pixels that shows this drawing or none.
 #[tactic(auto, unfolding(crate::specs::Frames::frame_bytes_of))]
-pub(crate) fn frame_bytes(
+pub(crate) fn frame_file(
     alloc: Global,
     w: u32,
     h: u32,
-    pixels: &Option<List<u8>>,
+    drawing: Option<Raster>,
 ) -> Result<Vec<u8>, Memory>
-    requires { w * h ≤ 2 ^ 24 }
-    ensures { IfOk result (λ bytes. bytes.items ≡ frame_bytes_of w h pixels.now) }
+    requires width { IsSide w }
+    requires height { IsSide h }
+    ensures { IfOk result (λ bytes. bytes.items ≡ frame_bytes_of w h drawing) }
 {
-    let mut bytes = Vec::from_slice(alloc, b"XFR1")?;
-    bytes.extend_from_slice(&w.to_le_bytes())?;
-    bytes.extend_from_slice(&h.to_le_bytes())?;
-    let Some(pixels) = pixels else {
-        let clear = vec![in alloc; 0; 4 * (w as usize * h as usize)]?;
-        bytes.extend_from_slice(clear.as_slice())?;
-        return Ok(bytes);
+    let picture = picture(alloc, w, h, drawing)?;
+    frame_bytes(alloc, &picture)
+}
+
+/// The frame of `w` by `h` pixels that shows this drawing or none.
+fn picture(alloc: Global, w: u32, h: u32, drawing: Option<Raster>) -> Result<Raster, Memory>
+    requires width { IsSide w }
+    requires height { IsSide h }
+    ensures { IfOk result (λ picture. picture ≡ picture_of w h drawing) }
+{
+    let mut picture = Raster::clear(alloc, frame_rect(w, h))?;
+    let Some(drawing) = drawing else {
+        return Ok(picture);
     };
-    bytes.extend_from_slice(pixels.items())?;
-    Ok(bytes)
+    picture.paste(&Tile::new(0, drawing));
+    Ok(picture)
+}
+
+/// The rectangle of a frame of `w` by `h` pixels.
+fn frame_rect(w: u32, h: u32) -> Rect
+    requires width { IsSide w }
+    requires height { IsSide h }
+    ensures { result ≡ frame w h }
+{
+    Rect::new(0, 0, w, h).unwrap()
 }

@@ -4,7 +4,7 @@
 //! order, and its answer; the contract of `run` says what each answer has done of it.
 #![tactic(auto)]
 
-mod colour_file;
+mod drawing;
 mod frame;
 mod render;
 mod small_scene;

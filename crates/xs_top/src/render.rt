@@ -1,20 +1,20 @@
 ghost use Rattle.std.specs.Prelude.{◌≡◌, ◌≤◌, ◌⊎◌, Some, IfOk, IsErrOf, Option, map, string_bytes};
+ghost use Rattle.xs_raster.specs.Bitmap.{Bitmap};
 ghost use Rattle.xs_outside.specs.Told.{Rose, more};
 ghost use Rattle.xs_top.specs.Trace.{Outcome, Seen, puts, ended, with_asked, with_shelf};
 ghost use Rattle.xs_top.specs.Runs.{Runs, IsRun};
 ghost use Rattle.xs_top.specs.Small.{SmallSceneRecord};
-ghost use Rattle.xs_top.specs.ColourFiles.{Pixels};
 ghost use Rattle.xs_top.specs.Outcome.{Files, placing, frame_of, loading_scene, loading_drawing, rendering_row, rendering, commanding, outcome};
 
-use crate::colour_file::read_pixels;
-use crate::frame::{frame_bytes, frame_name};
+use crate::drawing::read_drawing;
+use crate::frame::{frame_file, frame_name};
 use crate::small_scene::{SmallScene, read_small_scene};
 use crate::status::{Status, status_of};
 use crate::steps::{ask, note, place};
 use crate::{DRAWING_LIMIT, SCENE_LIMIT};
 use std::alloc::Global;
 use xs_outside::{Library, Notes, Shelf};
-use xs_pixel::List;
+use xs_raster::Raster;
 use xs_scene::Name;
 use xs_words::{Command, read_words};
 
@@ -41,8 +41,8 @@ fn load_drawing<L: Library>(
     lib: &mut L,
     scene: &SmallScene,
     row: u32,
-) -> Result<Option<List<u8>>, Status>
-    ensures told { (files : Files) → L.files lib.old ≡ Some files → (next : Option Pixels → Outcome) (seen : Seen) →
+) -> Result<Option<Raster>, Status>
+    ensures told { (files : Files) → L.files lib.old ≡ Some files → (next : Option Bitmap → Outcome) (seen : Seen) →
         Runs (loading_drawing files scene.now row next) next
         (with_asked seen (L.asked lib.old)) (with_asked seen (L.asked lib.new)) result }
     ensures same { L.files lib.new ≡ L.files lib.old }
@@ -54,8 +54,8 @@ fn load_drawing<L: Library>(
         return Ok(None);
     }
     let bytes = ask(alloc, lib, scene.drawing(), DRAWING_LIMIT)?;
-    match read_pixels(alloc, scene.w(), scene.h(), bytes.as_slice())? {
-        Some(pixels) => Ok(Some(pixels)),
+    match read_drawing(alloc, bytes.as_slice())? {
+        Some(drawing) => Ok(Some(drawing)),
         None => Err(Status::NotYet),
     }
 }
@@ -67,17 +67,17 @@ fn place_frame<S: Shelf>(
     base: &Name,
     scene: &SmallScene,
     row: u32,
-    pixels: &Option<List<u8>>,
+    drawing: Option<Raster>,
 ) -> Result<(), Status>
     ensures told { (next : Outcome) (seen : Seen) →
-        Runs (placing (frame_of base.now scene.now row pixels.now) next) (λ _. next)
+        Runs (placing (frame_of base.now scene.now row drawing) next) (λ _. next)
         (with_shelf seen (S.objects shelf.old)) (with_shelf seen (S.objects shelf.new)) result }
     ensures later { S.faults shelf.old ≤ S.faults shelf.new }
     ensures read { IsErrOf result Status.ReadFault → ⊥ }
     ensures write { IsErrOf result Status.WriteFault → Rose (S.faults shelf.old) (S.faults shelf.new) }
 {
     let name = frame_name(alloc, base, row)?;
-    let bytes = frame_bytes(alloc, scene.w(), scene.h(), pixels)?;
+    let bytes = frame_file(alloc, scene.w(), scene.h(), drawing)?;
     place(alloc, shelf, name.as_str(), bytes.as_slice())?;
     Ok(())
 }
@@ -104,8 +104,8 @@ fn render_row<L: Library, S: Shelf, T: Notes>(
         ⊎ Rose (S.faults shelf.old) (S.faults shelf.new) }
 {
     let small = load_scene(alloc, lib, scene)?;
-    let pixels = load_drawing(alloc, lib, &small, row)?;
-    place_frame(alloc, shelf, base, &small, row, &pixels)?;
+    let drawing = load_drawing(alloc, lib, &small, row)?;
+    place_frame(alloc, shelf, base, &small, row, drawing)?;
     note(alloc, notes, b"rendered 1 rows")?;
     Ok(())
 }

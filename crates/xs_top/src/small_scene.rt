@@ -1,4 +1,5 @@
-ghost use Rattle.std.specs.Prelude.{◌≡◌, ◌≤◌, ◌*◌, ◌^◌, IfOk, option_map};
+ghost use Rattle.std.specs.Prelude.{◌≡◌, IfOk, option_map};
+ghost use Rattle.xs_scene.specs.Ranges.{IsSide};
 ghost use Rattle.xs_top.specs.Small.{shows, sole, is_nothing, drawing_of, shows_first, row_of, row_in, column_row, column_of, small_of, small_scene_of};
 
 use std::alloc::Global;
@@ -19,28 +20,29 @@ pub(crate) struct SmallScene {
 }
 
 impl Model for SmallScene {
-    ghost use Rattle.std.specs.Prelude.{◌≤◌, ◌*◌, ◌^◌};
+    ghost use Rattle.xs_scene.specs.Ranges.{IsSide};
     ghost use Rattle.xs_top.specs.Small.{SmallSceneRecord};
 
     ghost Value = { SmallSceneRecord };
 
     ghost view = { λ s. record { w = s.w; h = s.h; drawing = s.drawing; shown = s.shown } };
 
-    ghost invariant = { λ s. s.w * s.h ≤ 2 ^ 24 };
+    ghost invariant = { λ s. IsSide s.w × IsSide s.h };
 }
 
 impl SmallScene {
     /// The width of the camera.
     pub(crate) fn w(&self) -> u32
         ensures value { result ≡ self.now.w }
-        ensures area { self.now.w * self.now.h ≤ 2 ^ 24 }
+        ensures range { IsSide result }
     {
         self.w
     }
 
     /// The height of the camera.
     pub(crate) fn h(&self) -> u32
-        ensures { result ≡ self.now.h }
+        ensures value { result ≡ self.now.h }
+        ensures range { IsSide result }
     {
         self.h
     }
