@@ -14,7 +14,7 @@ use Rattle.xs_schematic.specs.Order.{IsOrderable, IsOrder}
 use Rattle.xs_schematic.specs.Visits.{nodes_of, inputs_of, inputs_in, stands_in, put_last, visit_all, visit_node, visits_of}
 use Rattle.xs_schematic.proofs.Standing.{IsBegun, IsBegun-nil, IsVisited, IsVisited-put_last, AreVisited-visit_all, Contains-stands}
 
-Each-append : (P : ℕ → Type 0) (xs ys : List ℕ) → Each P xs → Each P ys → Each P (xs ++ ys)
+pub Each-append : (P : ℕ → Type 0) (xs ys : List ℕ) → Each P xs → Each P ys → Each P (xs ++ ys)
 Each-append P [] ys first second = second
 Each-append P (x ∷ xs) ys first second = (first.0, Each-append P xs ys first.1 second)
 
@@ -41,6 +41,16 @@ inputs_end k m (Some (Blur input radius)) ends = ends_alone k m input ends
 inputs_end k m (Some (Keep input styles)) ends = ends_alone k m input ends
 inputs_end k m (Some (Delete input styles)) ends = ends_alone k m input ends
 
+-- the inputs of a node are nodes whose ways end one node earlier
+pub inputs_that_end :
+    (k : SheetRecord) → IsOrderable k → (m n : ℕ) → n < length k.nodes → NodesEnd k (suc m) (ToNode n)
+    → Each (λ x. (x < length k.nodes) × Ends k m x) (inputs_in k.nodes n)
+unfolding NodesEnd
+inputs_that_end k orderable m n node ends =
+    Each-both (λ x. x < length k.nodes) (Ends k m) (inputs_in k.nodes n)
+    (recursion_from_All (λ x. x < length k.nodes) (inputs_in k.nodes n) (orderable.inputs n node))
+    (inputs_end k m (slice_get k.nodes n) ends)
+
 pub IsVisited-visit_node :
     (k : SheetRecord) → IsOrderable k → (m n : ℕ) → n < length k.nodes → NodesEnd k m (ToNode n)
     → (order : List ℕ) → IsBegun k.nodes order → IsVisited k.nodes order n (visit_node k.nodes m n order)
@@ -49,11 +59,7 @@ IsVisited-visit_node k orderable zero n node ends order begun = absurd ends
 IsVisited-visit_node k orderable (suc m) n node ends order begun =
     let nodes = k.nodes in
     let inputs = inputs_in nodes n in
-    let each =
-    Each-both (λ x. x < length nodes) (Ends k m) inputs
-    (recursion_from_All (λ x. x < length nodes) inputs (orderable.inputs n node))
-    (inputs_end k m (slice_get nodes n) ends)
-    in
+    let each = inputs_that_end k orderable m n node ends in
     let all =
     AreVisited-visit_all nodes (λ x. (x < length nodes) × Ends k m x) (visit_node nodes m)
     (λ x is. IsVisited-visit_node k orderable m x is.0 is.1) inputs each order begun
@@ -64,19 +70,27 @@ IsVisited-visit_node k orderable (suc m) n node ends order begun =
     (λ stands. record { begun = begun; keeps = λ x at. at; has = Contains-stands order n stands })
     (λ fails. record { begun = put.begun; keeps = λ x at. put.keeps x (all.keeps x at); has = put.has })
 
+-- the numbers of all nodes are those of nodes whose ways end
+pub numbers_that_end :
+    (k : SheetRecord) → IsOrderable k
+    → Each (λ n. (n < length k.nodes) × Ends k (length k.nodes) n) (range_with_len 0 (length k.nodes))
+numbers_that_end k orderable =
+    let count = length k.nodes in
+    recursion_from_All (λ n. (n < count) × Ends k count n) (range_with_len 0 count)
+    (λ i d lt.
+    let inside : i < count = omega (arith, length-range_with_len 0 count) in
+    let below : get_or (range_with_len 0 count) i d < count = omega (arith, get_or-range_with_len 0 count i d inside) in
+    (below, orderable.ends _ below))
+
 pub IsOrder-visits_of : (k : SheetRecord) → IsOrderable k → IsOrder k (visits_of k.nodes)
 unfolding visits_of
 IsOrder-visits_of k orderable =
     let nodes = k.nodes in
     let count = length nodes in
     let numbers = range_with_len 0 count in
-    let each : Each (λ n. n < count) numbers =
-    recursion_from_All (λ n. n < count) numbers
-    (λ i d lt. (let inside : i < count = omega (arith, length-range_with_len 0 count) in omega (arith, get_or-range_with_len 0 count i d inside)))
-    in
     let all =
-    AreVisited-visit_all nodes (λ n. n < count) (visit_node nodes count)
-    (λ n lt. IsVisited-visit_node k orderable count n lt (orderable.ends n lt)) numbers each [] (IsBegun-nil nodes)
+    AreVisited-visit_all nodes (λ n. (n < count) × Ends k count n) (visit_node nodes count)
+    (λ n is. IsVisited-visit_node k orderable count n is.0 is.1) numbers (numbers_that_end k orderable) [] (IsBegun-nil nodes)
     in
     let has = All-from_recursion (Contains (visit_all (visit_node nodes count) numbers [])) numbers all.has in
     record {

@@ -1,8 +1,10 @@
-use Rattle.std.specs.Prelude.{ℕ, ◌<◌, ◌≤◌, ◌≢◌, List, All, AllPairs, Contains, length, take, slice_index}
+use Rattle.std.specs.Prelude.{ℕ, zero, suc, ◌<◌, ◌≤◌, ◌≢◌, List, [], ◌∷◌, ◌++◌, All, AllPairs, Contains, length, take, fold, flat_map, slice_index, if◌then◌else◌}
+use Rattle.std.specs.List.{range_with_len}
+use Rattle.xs_scene.specs.declared.node.Node.{Node}
 use Rattle.xs_scene.specs.declared.node.Ref.TheVariants.{Node as ToNode}
 use Rattle.xs_scene.specs.Records.{SheetRecord}
 use Rattle.xs_meaning.specs.Ends.{NodesEnd}
-use Rattle.xs_schematic.specs.Visits.{inputs_in}
+use Rattle.xs_schematic.specs.Visits.{inputs_in, put_last}
 
 -- what checking finds of a sheet's nodes: they are few, their inputs are there, and no node leads back
 -- to itself
@@ -22,3 +24,21 @@ pub record IsOrder (k : SheetRecord) (order : List ℕ) : Type 0 where
   pub once : AllPairs (λ m n. m ≢ n) order
   pub all : (n : ℕ) → n < length k.nodes → Contains order n
   pub inputs_first : AreAfterInputs k order
+
+-- what a node is made from, written out, through at most so many nodes: all that its first input is made
+-- from, all that its second is made from, and then itself. What is used twice stands there twice
+unfoldable pub made_from : List Node → ℕ → ℕ → List ℕ
+made_from nodes zero n = []
+made_from nodes (suc m) n = flat_map (made_from nodes m) (inputs_in nodes n) ++ n ∷ []
+
+-- the same for all nodes by rising number
+abbrev pub all_made_from : List Node → List ℕ
+all_made_from nodes = flat_map (made_from nodes (length nodes)) (range_with_len 0 (length nodes))
+
+-- some numbers put one by one behind an order, each unless it stands there already
+abbrev pub put_each : List ℕ → List ℕ → List ℕ
+put_each order ns = fold (λ order n. put_last n order) order ns
+
+-- the numbers of a list, each at its first place
+abbrev pub each_once : List ℕ → List ℕ
+each_once ns = put_each [] ns

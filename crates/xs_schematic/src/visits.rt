@@ -1,18 +1,19 @@
 ghost use Rattle.std.specs.Prelude.{◌≡◌, ◌++◌, IfOk, OnOk};
 ghost use Rattle.std.specs.Option.{option_to_list};
-ghost use Rattle.xs_schematic.specs.Visits.{visit_node, visit_all, visits_of, inputs_in, nodes_of, put_last};
-ghost use Rattle.xs_schematic.specs.Order.{IsOrderable, IsOrder};
+ghost use Rattle.xs_schematic.specs.Visits.{visit_node, visit_all, inputs_in, nodes_of, put_last};
+ghost use Rattle.xs_schematic.specs.Order.{IsOrderable, IsOrder, each_once, all_made_from};
 
 use std::alloc::{AllocError, Global};
 use xs_pixel::Memory;
 use xs_scene::{Node, Ref, Sheet};
 
 /// The nodes of a sheet in an order in which they can be made: every node once, each after its inputs.
-/// They are visited by rising number, the first input of a node before the second.
+/// They are visited by rising number, and what a node is made from before it, the first input before the
+/// second; each stands where it is first come to.
 pub fn order(alloc: Global, s: &Sheet) -> Result<Vec<u32>, Memory>
     requires { IsOrderable s.now }
     ensures order { IfOk result (λ v. IsOrder s.now v.items) }
-    ensures visits { IfOk result (λ v. v.items ≡ visits_of s.now.nodes) }
+    ensures visits { IfOk result (λ v. v.items ≡ each_once (all_made_from s.now.nodes)) }
 {
     let nodes = s.nodes.items();
     let count = nodes.len() as u32;
