@@ -1,7 +1,11 @@
 pub mod Findings
+pub mod Pairs
+pub mod Standings
 pub mod Chains
 pub mod Searches
+pub mod Levels
 pub mod Endings
 pub mod Goods
 pub mod Repeats
 pub mod FirstTold
+pub mod FirstShared

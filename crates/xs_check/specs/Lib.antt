@@ -1,6 +1,9 @@
 pub mod Finding
 pub mod Ways
 pub mod Search
+pub mod Labels
 pub mod Links
+pub mod Standing
 pub mod Good
+pub mod Stands
 pub mod Passes

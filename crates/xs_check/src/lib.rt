@@ -6,11 +6,14 @@ pub mod cycles;
 pub mod files;
 pub mod finding;
 pub mod good;
+pub mod labels;
 pub mod links;
 pub mod overlaps;
 pub mod references;
 pub mod search;
 pub mod sizes;
+pub mod standing;
+pub mod walk;
 pub mod ways;
 
 pub use good::{GoodScene, check};
