@@ -1,12 +1,12 @@
-use Rattle.std.proofs.Common.{◌≡◌, ◌<◌, ◌≤◌, ◌+◌, ◌==◌, ℕ, zero, suc, Bool, true, false, Option, Some, None, List, [], ◌∷◌, Contains, length, map, get_or, refl, sym, ◌∙◌, ap, subst, arith}
+use Rattle.std.proofs.Common.{◌≡◌, ◌<◌, ◌≤◌, ◌+◌, ◌==◌, ℕ, zero, suc, Bool, true, false, Option, Some, None, List, [], ◌∷◌, All, Contains, length, map, get_or, refl, sym, ◌∙◌, subst, inl, inr, arith}
 use Rattle.std.proofs.Math.ListN.{get_or-map}
-use Rattle.std.proofs.lemmas.List.{length-map}
+use Rattle.std.proofs.lemmas.List.{length-map, get_or_past}
 use Rattle.std.proofs.Math.Numerals.{add-one}
-use Rattle.std.proofs.lemmas.Bool.{false≢true}
+use Rattle.std.proofs.lemmas.Bool.{false≢true, cases_lt}
 use Rattle.std.proofs.lemmas.Bool.Decides.{nat_tests}
 use Rattle.std.proofs.lemmas.List.Folds.{Any-from_list_any, list_any-from_Any}
 use Rattle.std.specs.List.{list_any}
-use Rattle.xs_check.specs.Ways.{Links, named_by, Leads, Reaches, LiesOnCycle, HasChain, has_chain, TellChains, IsFirstWithout}
+use Rattle.xs_check.specs.Ways.{Links, named_by, Leads, LiesOnCycle, HasChain, has_chain, TellChains, IsFirstWithout}
 
 -- ---- chains and their test
 
@@ -116,3 +116,31 @@ first_chain links steps marks first some tells h =
     let inside : (steps == 0) ≡ false = grind (arith, nat_tests) in
     let told : (a : ℕ) → get_or marks a false ≡ has_chain links steps a = λ a. subst (λ (b : Bool). get_or marks a b ≡ has_chain links steps a) inside (tells.told a) in
     first_by links steps marks first told tells.length h
+
+-- ---- no chain left
+
+way_begins : (links : Links) (m n a b : ℕ) → m ≤ n → Leads links n a b → has_chain links m a ≡ true
+unfolding Leads has_chain
+way_begins links zero n a b few way = refl
+way_begins links (suc m) zero a b few way = absurd (omega arith)
+way_begins links (suc m) (suc n) a b few (c, (k, below, is), way) =
+    list_any-from_Any (has_chain links m) (named_by links a) (k, c, below, is, way_begins links m n c b (omega arith) way)
+
+-- where no chain of some steps is left there is none of more
+pub chains_over : (links : Links) (m n : ℕ) (marks : List Bool) → TellChains links m marks → 0 < m → m ≤ n
+    → All (λ mark. mark ≡ false) marks → TellChains links n marks
+chains_over links m n marks tells some few none =
+    let m_inside : (m == 0) ≡ false = grind (arith, nat_tests) in
+    let n_inside : (n == 0) ≡ false = grind (arith, nat_tests) in
+    let unmarked : (a : ℕ) → get_or marks a false ≡ false =
+    λ a. elim (cases_lt a (length marks)) [ inl below ↦ none a false below | inr past ↦ get_or_past marks a false past ] in
+    record {
+      length = tells.length;
+      told =
+          λ a.
+          let short : has_chain links m a ≡ false =
+          sym (subst (λ (b : Bool). get_or marks a b ≡ has_chain links m a) m_inside (tells.told a)) ∙ unmarked a in
+          let long : has_chain links n a ≡ false =
+          chain_missing links n a (λ chain. false≢true (sym short ∙ way_begins links m n a chain.end few chain.way)) in
+          rw n_inside (unmarked a ∙ sym long);
+    }

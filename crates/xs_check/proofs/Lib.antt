@@ -1,6 +1,9 @@
 pub mod Findings
+pub mod Pairs
+pub mod Standings
 pub mod Chains
 pub mod Searches
+pub mod Levels
 pub mod Endings
 pub mod Goods
 pub mod Repeats
@@ -8,3 +11,4 @@ pub mod FirstTold
 pub mod Numbering
 pub mod Readings
 pub mod StyleKeys
+pub mod FirstShared

@@ -1,7 +1,10 @@
 pub mod Finding
 pub mod Ways
 pub mod Search
+pub mod Labels
 pub mod Links
+pub mod Standing
 pub mod Good
+pub mod Stands
 pub mod Passes
 pub mod Readers

@@ -1,33 +1,17 @@
 //! Pegs, nodes and sheets that lead back to themselves, and chains of them that are too long.
 ghost use Rattle.std.specs.Prelude.{◌≡◌, ◌<◌, IfOk, length, map};
-ghost use Rattle.xs_check.specs.Finding.{Finds, TellsFirst};
+ghost use Rattle.xs_check.specs.Finding.{Finds};
 ghost use Rattle.xs_check.specs.Passes.{sheets_at, PegCycles, NodeCycles, SheetCycles, LongChains, NoCycles, NoLongChains};
 ghost use Rattle.xs_check.specs.Ways.{LiesOnCycle, IsFirstWithout};
 
-use crate::finding::{Rule, each};
+use crate::finding::{Rule, each, tell_first};
+use crate::labels::first_on_cycle;
 use crate::links::{Naming, links_of};
-use crate::overlaps::fault_of;
-use crate::search::first_on_cycle;
 use crate::ways::first_long;
 use std::alloc::{AllocError, Global};
 use xs_json::{Field, FieldFault, Path, Place, SceneCode};
 use xs_pixel::List;
 use xs_scene::{Scene, Sheet};
-
-/// The fault at the first of some elements, if there is one.
-fn tell_first(
-    alloc: Global,
-    first: Option<usize>,
-    code: SceneCode,
-    at: &Path,
-) -> Result<(), FieldFault>
-    ensures { TellsFirst code at.now first result }
-{
-    match first {
-        Some(i) => Err(fault_of(alloc, code, at, i)),
-        None => Ok(()),
-    }
-}
 
 /// The first thing on a cycle. Where no chain has `steps` more things after it, nothing is on a cycle.
 fn first_cycle(

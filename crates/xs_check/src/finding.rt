@@ -1,9 +1,11 @@
 ghost use Rattle.std.specs.Prelude.{ℕ};
 ghost use Rattle.std.specs.Prelude.{List as Items};
-ghost use Rattle.xs_check.specs.Finding.{Finding, Finds, EachAt};
+ghost use Rattle.xs_check.specs.Finding.{Finding, Finds, EachAt, TellsFirst};
+ghost use Rattle.xs_json.specs.Paths.{index_at};
+ghost use Rattle.xs_json.specs.Reading.{Tells};
 
 use std::alloc::Global;
-use xs_json::{FieldFault, Path, Place};
+use xs_json::{FieldFault, Path, Place, SceneCode};
 
 /// What is looked for in each element of a list.
 pub trait Rule<T> {
@@ -35,4 +37,29 @@ pub fn each<T, R: Rule<T>>(
         }
     }
     Ok(())
+}
+
+/// The fault at an element of a list.
+fn fault_of(alloc: Global, code: SceneCode, at: &Path, i: usize) -> FieldFault
+    ensures { Tells code (index_at at.now i) result }
+{
+    match u32::try_from(i) {
+        Ok(i) => Place::item(at, i).fault(alloc, code),
+        Err(_) => FieldFault::Memory,
+    }
+}
+
+/// The fault at the first of some elements, if there is one.
+pub fn tell_first(
+    alloc: Global,
+    first: Option<usize>,
+    code: SceneCode,
+    at: &Path,
+) -> Result<(), FieldFault>
+    ensures { TellsFirst code at.now first result }
+{
+    match first {
+        Some(i) => Err(fault_of(alloc, code, at, i)),
+        None => Ok(()),
+    }
 }

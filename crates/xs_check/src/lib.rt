@@ -6,6 +6,7 @@ pub mod cycles;
 pub mod files;
 pub mod finding;
 pub mod good;
+pub mod labels;
 pub mod links;
 mod numbers;
 pub mod overlaps;
@@ -13,6 +14,8 @@ mod readers;
 pub mod references;
 pub mod search;
 pub mod sizes;
+pub mod standing;
+pub mod walk;
 pub mod ways;
 
 pub use good::{GoodScene, check};

@@ -1,83 +1,109 @@
 //! What stands where something earlier stands.
-ghost use Rattle.std.specs.Prelude.{◌↔◌, IsTrue, All};
+ghost use Rattle.std.specs.Prelude.{◌≡◌, ◌↔◌, IfOk, All, map};
 ghost use Rattle.xs_check.specs.Finding.{Finds};
 ghost use Rattle.xs_check.specs.Passes.{EachApart, Overlaps};
-ghost use Rattle.xs_json.specs.Paths.{index_at};
-ghost use Rattle.xs_json.specs.Reading.{Tells};
+ghost use Rattle.xs_check.specs.Standing.{IsSpan, StandApart};
 
 use crate::files::files_apart;
-use crate::finding::{Rule, each};
-use std::alloc::Global;
+use crate::finding::{Rule, each, tell_first};
+use crate::standing::{Rows, first_shared};
+use std::alloc::{AllocError, Global};
 use xs_json::{Field, FieldFault, Path, Place, SceneCode};
 use xs_scene::{Colours, Column, Exposure, Peg, PegKey, Scene, Sheet, StyleKey};
 
 /// A thing that may not stand where another stands.
 pub trait Apart: Sized {
-    /// The earlier one and the later one stand apart.
+    ghost use Rattle.xs_check.specs.declared.standing.Rows.{Rows as Stand};
+
+    /// Two stand apart.
     ghost apart: { Self → Self → Type 0 };
 
-    fn is_apart(&self, earlier: &Self) -> bool
-        ensures { IsTrue result ↔ apart earlier.now self.now };
+    /// Where a thing stands.
+    ghost stands: { Self → Stand };
+
+    fn rows(&self) -> Rows
+        ensures stands { result ≡ stands self.now }
+        ensures span { IsSpan result };
+
+    ghost told: { (a b : Self) → apart a b ↔ StandApart (stands a) (stands b) };
 }
 
 impl Apart for PegKey {
     ghost use Rattle.xs_check.specs.Good.{DifferInRow};
+    ghost use Rattle.xs_check.specs.Stands.{peg_key_stands, peg_keys_told};
 
     ghost apart = { DifferInRow };
 
-    fn is_apart(&self, earlier: &PegKey) -> bool {
-        earlier.row != self.row
+    ghost stands = { peg_key_stands };
+
+    ghost told = { peg_keys_told };
+
+    fn rows(&self) -> Rows {
+        Rows {
+            group: 0,
+            from: self.row,
+            to: self.row,
+        }
     }
 }
 
 impl Apart for StyleKey {
     ghost use Rattle.xs_check.specs.Good.{DifferInRowOrStyle};
+    ghost use Rattle.xs_check.specs.Stands.{style_key_stands, style_keys_told};
 
     ghost apart = { DifferInRowOrStyle };
 
-    fn is_apart(&self, earlier: &StyleKey) -> bool {
-        earlier.style != self.style || earlier.row != self.row
+    ghost stands = { style_key_stands };
+
+    ghost told = { style_keys_told };
+
+    fn rows(&self) -> Rows {
+        Rows {
+            group: self.style,
+            from: self.row,
+            to: self.row,
+        }
     }
 }
 
 impl Apart for Exposure {
     ghost use Rattle.xs_check.specs.Good.{AreApart};
+    ghost use Rattle.xs_check.specs.Stands.{cell_stands, cells_told};
 
     ghost apart = { AreApart };
 
-    fn is_apart(&self, earlier: &Exposure) -> bool {
-        earlier.to < self.from || self.to < earlier.from
+    ghost stands = { cell_stands };
+
+    ghost told = { cells_told };
+
+    fn rows(&self) -> Rows {
+        Rows {
+            group: 0,
+            from: self.from,
+            to: self.to,
+        }
     }
 }
 
-/// The fault at an element of a list.
-pub fn fault_of(alloc: Global, code: SceneCode, at: &Path, i: usize) -> FieldFault
-    ensures { Tells code (index_at at.now i) result }
+/// Where each of some things stands.
+fn rows_of<T: Apart>(alloc: Global, items: &[T]) -> Result<Vec<Rows>, AllocError>
+    ensures rows { IfOk result (λ v. v.items ≡ map T.stands items.now) }
+    ensures spans { IfOk result (λ v. All IsSpan v.items) }
 {
-    match u32::try_from(i) {
-        Ok(i) => Place::item(at, i).fault(alloc, code),
-        Err(_) => FieldFault::Memory,
+    let mut rows = Vec::with_capacity(alloc, items.len())?;
+    for item in items {
+        rows.push(item.rows())?;
     }
-}
-
-/// Whether an element stands apart from each earlier one.
-fn stands_apart<T: Apart>(earlier: &[T], item: &T) -> bool
-    ensures { IsTrue result ↔ All (λ x. T.apart x item.now) earlier.now }
-{
-    earlier.iter().all(|x| item.is_apart(x))
+    Ok(rows)
 }
 
 /// The first element that does not stand apart from each earlier one.
-#[tactic(auto, unfolding(crate::specs::Passes::EachApart))]
 fn each_apart<T: Apart>(alloc: Global, items: &[T], at: &Path) -> Result<(), FieldFault>
     ensures { Finds result (EachApart T.apart at.now items.now) }
 {
-    for (i, item) in items.iter().enumerate() {
-        if !stands_apart(&items[..i], item) {
-            return Err(fault_of(alloc, SceneCode::Overlap, at, i));
-        }
-    }
-    Ok(())
+    let rows = rows_of(alloc, items)?;
+    let first = first_shared(alloc, &rows)?;
+    tell_first(alloc, first, SceneCode::Overlap, at)
 }
 
 /// The keys of a palette.

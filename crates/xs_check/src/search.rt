@@ -60,7 +60,7 @@ pub fn leads_back(alloc: Global, links: &List<List<u32>>, from: u32) -> Result<b
 }
 
 /// The first thing from which a way leads back to it.
-pub fn first_on_cycle(alloc: Global, links: &List<List<u32>>) -> Result<Option<usize>, AllocError>
+pub fn first_by_search(alloc: Global, links: &List<List<u32>>) -> Result<Option<usize>, AllocError>
     ensures { IfOk result (IsFirstWithout (λ a. LiesOnCycle links.now a → ⊥) (length links.now)) }
 {
     for i in 0..links.items().len() {

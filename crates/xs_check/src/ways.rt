@@ -1,7 +1,7 @@
 //! Chains and cycles of things that name one another, as pegs their parents. How long chains are is told
 //! by as many rounds over all things: after each, a mark says whether a chain of one step more begins
-//! there. Only where a chain is too long is each thing asked whether a way leads back to it.
-ghost use Rattle.std.specs.Prelude.{◌≡◌, ◌<◌, IfOk, IsTrue, ℕ, false, length, map, slice_index_or};
+//! there. The rounds end early where no chain is left.
+ghost use Rattle.std.specs.Prelude.{◌≡◌, ◌<◌, ◌↔◌, IfOk, IsTrue, All, ℕ, false, length, map, slice_index_or};
 ghost use Rattle.std.specs.List.{list_any};
 ghost use Rattle.xs_check.specs.Ways.{TellChains, HasChain, LiesOnCycle, IsFirstWithout};
 
@@ -50,6 +50,13 @@ pub fn marks_of(alloc: Global, links: &List<List<u32>>, mark: bool) -> Result<Ve
     Ok(marks)
 }
 
+/// Whether nothing is marked.
+fn are_unmarked(marks: &[bool]) -> bool
+    ensures { IsTrue result ↔ All (λ mark. mark ≡ false) marks.now }
+{
+    marks.iter().all(|mark| !*mark)
+}
+
 /// Marks the things at which a chain begins that has `steps` more after it.
 pub fn chains(alloc: Global, links: &List<List<u32>>, steps: u32) -> Result<Vec<bool>, AllocError>
     ensures { IfOk result (λ v. TellChains links.now steps v.items) }
@@ -57,6 +64,9 @@ pub fn chains(alloc: Global, links: &List<List<u32>>, steps: u32) -> Result<Vec<
     let mut marks = marks_of(alloc, links, true)?;
     for step in 0..steps {
         marks = longer(alloc, links, &marks, step == 0)?;
+        if are_unmarked(&marks) {
+            return Ok(marks);
+        }
     }
     Ok(marks)
 }

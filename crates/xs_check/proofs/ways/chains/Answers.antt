@@ -1,5 +1,5 @@
-use Rattle.std.proofs.Common.{◌≡◌, ◌==◌, refl}
-use Rattle.xs_check.proofs.Chains.{chains_none, chains_more}
+use Rattle.std.proofs.Common.{◌≡◌, ◌==◌, ◌≤◌, ◌+◌, Bool, List, All, false, refl, subst, arith}
+use Rattle.xs_check.proofs.Chains.{chains_none, chains_more, chains_over}
 use Rattle.xs_check.proofs.ways.chains.Goals as goal
 
 pub loop-step-init : goal.loop-step-init
@@ -10,3 +10,14 @@ loop-step-preserved c =
     let same : c.deref.result.now ≡ c.loop-step.marks.items = cc in
     chains_more c.args.links.now c.loop-step.step (c.loop-step.step == 0) c.deref.result.now _ refl (rw same c.loop-step.invariant)
     c.in_ok-marks-2.ensures
+
+pub returns-then-are_unmarked : goal.returns-then-are_unmarked
+returns-then-are_unmarked c =
+    let same : c.deref.result.now ≡ c.loop-step.marks.items = cc in
+    let few : c.loop-step.step + 1 ≤ c.args.steps = omega arith in
+    chains_over c.args.links.now (c.loop-step.step + 1) c.args.steps c.in_ok-marks-2.marks.items
+    (chains_more c.args.links.now c.loop-step.step (c.loop-step.step == 0) c.deref.result.now _ refl (rw same c.loop-step.invariant)
+    c.in_ok-marks-2.ensures)
+    (omega arith) few
+    (subst (λ (l : List Bool). All (λ mark. mark ≡ false) l) c.deref-in-loop-step.ensures.value
+    (c.are_unmarked.ensures.0 c.if-are_unmarked.true))
