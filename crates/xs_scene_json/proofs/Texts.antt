@@ -1,19 +1,15 @@
--- The value of a text, by whether its bytes are UTF-8, the lengths of lists, and faults.
-use Rattle.std.proofs.Common.{◌≡◌, ℕ, List, [], Bool, true, false, cond, Some, None, length, Ok, Err, refl, sym, ap}
+-- The value of a text, by whether its bytes are UTF-8, and its faults.
+use Rattle.std.proofs.Common.{◌≡◌, ℕ, List, [], Bool, true, false, cond, Some, None, Ok, Err, refl, sym, ap}
 use Rattle.std.specs.Str.{is_utf8, IsUtf8}
 use Rattle.std.proofs.lemmas.Str.{IsUtf8-from_is_utf8, is_utf8-from_IsUtf8}
 use Rattle.serde_json.specs.Data.{Data}
 use Rattle.serde_json.specs.Read.{read}
-use Rattle.serde_json.specs.Events.{items_len}
-use Rattle.serde_json.specs.View.{items_view}
-use Rattle.serde_json.specs.declared.value.Value.{Value}
-use Rattle.serde_json.proofs.Views.{items_len-items_view}
 use Rattle.xs_json.specs.declared.code.SceneCode.{SceneCode}
 use Rattle.xs_json.specs.declared.fault.FieldFault.{FieldFault}
 use Rattle.xs_json.specs.declared.fault.FieldFault.TheVariants as errors
 use Rattle.xs_json.specs.Reading.{Tells, Fails, fault}
 use Rattle.xs_scene.specs.Records.{SceneRecord}
-use Rattle.xs_scene_json.specs.SceneText.{json_of, scene_at, scene_of}
+use Rattle.xs_scene_text.specs.SceneText.{json_of, scene_at, scene_of}
 
 pub json_of-some : (bytes : List ℕ) (d : Data) → IsUtf8 bytes → read bytes ≡ Some d → json_of bytes ≡ Some d
 json_of-some bytes d utf8 e = rw (is_utf8-from_IsUtf8 bytes utf8) e
@@ -24,9 +20,6 @@ none_when false bytes e none = refl
 
 pub json_of-none : (bytes : List ℕ) → (IsUtf8 bytes → read bytes ≡ None) → json_of bytes ≡ None
 json_of-none bytes none = none_when (is_utf8 bytes) bytes refl none
-
-pub items_len_is : (values : List Value) → items_len (items_view values) ≡ length values
-items_len_is values = items_len-items_view values
 
 -- a fault that is told is the reading's
 pub fails_as_told : (Y : Type 0) (code : SceneCode) (at : List ℕ) (e : FieldFault) → Tells code at e → Fails {Y = Y} e (fault code at)

@@ -1,3 +1,3 @@
-pub mod Fields
-pub mod SceneText
-pub mod SceneData
+pub use Rattle.xs_scene_text.specs.Fields
+pub use Rattle.xs_scene_text.specs.SceneText
+pub use Rattle.xs_scene_text.specs.SceneData

@@ -2,17 +2,7 @@
 //! is written for a scene.
 #![tactic(auto)]
 
-mod column;
-mod element;
-mod fields;
-mod level;
-mod node;
-mod palette;
-mod peg;
 mod scene;
-mod sheet;
-mod work;
-mod written;
 
 pub use scene::{decode, encode};
 

@@ -1,6 +1,6 @@
 use Rattle.std.proofs.Common.{[], arith}
 use Rattle.xs_scene_json.proofs.Texts.{scene_of-some}
-use Rattle.xs_scene_json.proofs.Shallow.{scene_shallow}
+use Rattle.xs_scene_text.proofs.Shallow.{scene_shallow}
 use Rattle.xs_scene_json.proofs.scene.encode.Goals as goal
 
 pub returns-clause-text : goal.returns-clause-text

@@ -1,0 +1,21 @@
+use crate::element::Element;
+use crate::fields::{if_there, list_or_empty, needed};
+use serde_json::Value;
+use std::alloc::Global;
+use xs_json::{Field, FieldFault, Place, object};
+use xs_scene::Sheet;
+
+impl Element for Sheet {
+    #[tactic(auto, unfolding(xs_scene_text::specs::SceneText::sheet_at, xs_scene::specs::Ranges::HasNoLines, xs_scene::specs::Ranges::HasOldNodes))]
+    fn read(alloc: Global, format: u32, v: &Value, place: &Place) -> Result<Self, FieldFault> {
+        let at = place.path(alloc)?;
+        let fields = [Field::Pegs, Field::Columns, Field::Nodes, Field::Out];
+        let map = object(alloc, v, &at, &fields, &[Field::Columns])?;
+        Ok(Sheet {
+            pegs: list_or_empty(alloc, format, map, &at, Field::Pegs)?,
+            columns: needed(alloc, format, map, &at, Field::Columns)?,
+            nodes: list_or_empty(alloc, format, map, &at, Field::Nodes)?,
+            out: if_there(alloc, format, map, &at, Field::Out)?,
+        })
+    }
+}

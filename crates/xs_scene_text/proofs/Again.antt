@@ -1,0 +1,30 @@
+-- A list is read again if its elements are.
+use Rattle.std.proofs.Common.{◌≡◌, ℕ, ◌+◌, List, [], ◌∷◌, map, All, Result, Ok, Err, refl}
+use Rattle.std.specs.Prelude.{OnOk}
+use Rattle.std.proofs.lemmas.List.Elements.{All-head, All-tail}
+use Rattle.serde_json.specs.Data.{Data}
+use Rattle.serde_json.specs.View.{items_of}
+use Rattle.xs_json.specs.Paths.{index_at}
+use Rattle.xs_json.specs.Reading.{Reading}
+use Rattle.xs_scene_text.specs.Fields.{each_at, list_of}
+use Rattle.xs_scene_text.specs.SceneData.{IsReadAgain, list_data}
+
+each_again : {A : Type 0} (reading : List ℕ → Data → Reading A) (written : A → Data) (xs : List A) (at : List ℕ) (i : ℕ)
+    → All (IsReadAgain reading written) xs → each_at reading at i (items_of (map written xs)) ≡ Ok xs
+each_again reading written [] at i again = refl
+each_again reading written (x ∷ xs) at i again =
+    rw (All-head (IsReadAgain reading written) x xs again (index_at at i), each_again reading written xs at (i + 1) (All-tail (IsReadAgain reading written) x xs again)) refl
+
+-- a list whose elements are
+pub list_again : {A : Type 0} (reading : List ℕ → Data → Reading A) (written : A → Data) (xs : List A)
+    → All (IsReadAgain reading written) xs → IsReadAgain (list_of reading) (list_data written) xs
+list_again reading written xs again at = each_again reading written xs at 0 again
+
+-- a fact holds on Ok if it holds at all
+pub on_ok : {A E P : Type 0} (r : Result A E) → P → OnOk r P
+on_ok (Ok x) p = p
+on_ok (Err e) p = tt
+
+pub on_ok_then : {A E P Q : Type 0} (r : Result A E) → (P → Q) → OnOk r P → OnOk r Q
+on_ok_then (Ok x) next p = next p
+on_ok_then (Err e) next p = tt

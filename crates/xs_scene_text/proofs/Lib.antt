@@ -1,0 +1,4 @@
+pub mod Again
+pub mod Nodes
+pub mod Objects
+pub mod Shallow

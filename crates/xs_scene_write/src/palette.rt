@@ -1,0 +1,48 @@
+use crate::written::{Written, put, put_number, write_list};
+use serde_json::{Map, Value};
+use std::alloc::{AllocError, Global};
+use xs_json::Field;
+use xs_pixel::{Memory, Style};
+use xs_scene::{Colours, StyleKey};
+
+impl Written for Style {
+    #[tactic(auto, unfolding(xs_scene_text::specs::SceneData::style_data))]
+    fn write(&self, alloc: Global, _format: u32) -> Result<Value, Memory> {
+        let Style { r, g, b, a } = *self;
+        let channels = vec![in alloc;
+            Value::from(r),
+            Value::from(g),
+            Value::from(b),
+            Value::from(a),
+        ]
+        .map_err(AllocError::from)?;
+        Ok(Value::from(channels))
+    }
+}
+
+impl Written for StyleKey {
+    #[tactic(auto, unfolding(xs_scene_text::specs::SceneData::style_key_data))]
+    fn write(&self, alloc: Global, format: u32) -> Result<Value, Memory> {
+        let mut map = Map::new(alloc);
+        put_number(&mut map, alloc, Field::Row, self.row)?;
+        put_number(&mut map, alloc, Field::Style, self.style)?;
+        let to = self.to.write(alloc, format)?;
+        put(&mut map, alloc, Field::Rgba, to)?;
+        Ok(Value::from(map))
+    }
+}
+
+impl Written for Colours {
+    #[tactic(auto, unfolding(xs_scene_text::specs::SceneData::palette_data))]
+    fn write(&self, alloc: Global, format: u32) -> Result<Value, Memory> {
+        let styles = write_list(alloc, format, &self.styles)?;
+        let keys = write_list(alloc, format, &self.keys)?;
+        if self.keys.items().is_empty() {
+            return Ok(styles);
+        }
+        let mut map = Map::new(alloc);
+        put(&mut map, alloc, Field::Styles, styles)?;
+        put(&mut map, alloc, Field::Keys, keys)?;
+        Ok(Value::from(map))
+    }
+}
