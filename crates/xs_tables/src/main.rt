@@ -1,0 +1,37 @@
+//! Carries out a table of cases. Each line of standard input names a call and its arguments; the line is
+//! printed, and after it what the call answered. A line that begins with `#` heads a part of the table.
+//!
+//! - `check FILE`: `good`, or the number of the first fault of the scene and its path
+//! - `prefixes FILE`: the number of the proper prefixes of the text that are no JSON, of how many
+//! - `nested N`: as `check`, of so many lists, each in the one before
+//! - `with FILE PART`: as `check`, of the file with the part in place of its `@`
+//! - `many FILE FIRST COUNT PIECE`: as `with`, where the part is so many copies of the piece, with a number
+//!   that counts up from FIRST in place of `#`
+//! - `show FILE`: the canonical text of the scene
+//! - `level FILE KIND`: the fields of the drawing, or the code of its first fault
+//! - `cuts FILE KIND`: the codes of the file cut to each shorter length
+//! - `files NAME=FILE ..`: the library has these files from here on
+//! - `run WORDS`: what the words do: the status and its text, the names that were asked for, the files on
+//!   the shelf and the notes
+//! - `fail get N WORDS`, `fail put N WORDS`, `fail note N WORDS`: the same, where that call fails
+//! - `quiet WORDS`: the same, over a library that tells nothing
+#![tactic(auto)]
+
+mod frame;
+mod hexadecimal;
+mod level;
+mod outside;
+mod render;
+mod scene;
+mod table;
+
+use std::io;
+use table::Table;
+
+fn main(rt: HostRuntime) -> io::Result<()> {
+    let mut table = Table::new(rt.alloc());
+    for line in rt.lines(rt.alloc()) {
+        table.carry_out(&rt, line?.as_str())?;
+    }
+    Ok(())
+}

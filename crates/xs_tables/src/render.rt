@@ -1,0 +1,122 @@
+//! The top call over an outside in memory.
+
+use crate::frame::push_frame;
+use crate::outside::{Failing, Outside};
+use std::alloc::Global;
+use std::{io, str};
+use xs_outside::{MemLibrary, MemNotes, MemShelf, QuietLibrary};
+use xs_top::{Status, fault_text, run, status_number};
+
+/// The words of a command line.
+fn words_of(alloc: Global, words: &str) -> io::Result<Vec<String>> {
+    let mut list = Vec::new(alloc);
+    for word in words.split_whitespace() {
+        list.push(String::from_str(alloc, word)?)?;
+    }
+    Ok(list)
+}
+
+/// The text of some bytes.
+fn push_bytes(text: &mut String, bytes: &[u8]) -> io::Result<()> {
+    Ok(text.push_str(str::from_utf8(bytes).unwrap_or("(not UTF-8)"))?)
+}
+
+/// The number of a status and its text.
+fn status_text(alloc: Global, status: &Status) -> io::Result<String> {
+    let mut text = status_number(status).to_string(alloc)?;
+    let Ok(fault) = fault_text(alloc, status) else {
+        return Err(io::Error::from(io::ErrorKind::OutOfMemory));
+    };
+    if !fault.is_empty() {
+        text.push(' ')?;
+        push_bytes(&mut text, &fault)?;
+    }
+    Ok(text)
+}
+
+/// The names that were asked for, if any.
+fn push_asked(text: &mut String, library: &MemLibrary) -> io::Result<()> {
+    if library.asked().is_empty() {
+        return Ok(());
+    }
+    text.push_str("\n  asked")?;
+    for name in library.asked() {
+        text.push(' ')?;
+        push_bytes(text, name.items())?;
+    }
+    Ok(())
+}
+
+/// The frames on the shelf, and what was noted, if anything.
+fn push_made(
+    text: &mut String,
+    alloc: Global,
+    shelf: &MemShelf,
+    notes: &MemNotes,
+) -> io::Result<()> {
+    for object in shelf.objects() {
+        text.push_str("\n  ")?;
+        push_bytes(text, object.name.items())?;
+        push_frame(text, alloc, object.bytes.items())?;
+    }
+    if !notes.bytes().is_empty() {
+        text.push_str("\n  noted ")?;
+        push_bytes(text, notes.bytes().trim_ascii_end())?;
+    }
+    Ok(())
+}
+
+fn shelf(alloc: Global, failing: Failing) -> io::Result<MemShelf> {
+    Ok(MemShelf::new(alloc, vec![in alloc; failing.put]?))
+}
+
+fn notes(alloc: Global, failing: Failing) -> io::Result<MemNotes> {
+    Ok(MemNotes::new(alloc, vec![in alloc; failing.note]?))
+}
+
+/// What the words do over these files, where these calls fail.
+fn run_text(alloc: Global, outside: &Outside, failing: Failing, words: &str) -> io::Result<String> {
+    let words = words_of(alloc, words)?;
+    let mut library = outside.library(alloc, failing.get)?;
+    let mut shelf = shelf(alloc, failing)?;
+    let mut notes = notes(alloc, failing)?;
+    let status = run(alloc, &words, &mut library, &mut shelf, &mut notes);
+    let mut text = status_text(alloc, &status)?;
+    push_asked(&mut text, &library)?;
+    push_made(&mut text, alloc, &shelf, &notes)?;
+    Ok(text)
+}
+
+/// What the words do over these files in a library that tells nothing.
+fn quiet_text(alloc: Global, outside: &Outside, words: &str) -> io::Result<String> {
+    let words = words_of(alloc, words)?;
+    let mut library = QuietLibrary::new(outside.library(alloc, 0)?);
+    let mut shelf = shelf(alloc, Failing::NONE)?;
+    let mut notes = notes(alloc, Failing::NONE)?;
+    let status = run(alloc, &words, &mut library, &mut shelf, &mut notes);
+    let mut text = status_text(alloc, &status)?;
+    let faults = format!(in alloc; "\n  faults {}", library.faults())?;
+    text.push_str(faults.as_str())?;
+    push_made(&mut text, alloc, &shelf, &notes)?;
+    Ok(text)
+}
+
+/// What the words do where one call fails: the kind of the call and its number come before them.
+fn failing_text(alloc: Global, outside: &Outside, words: &str) -> io::Result<String> {
+    let (kind, words) = words.split_once(' ').unwrap_or((words, ""));
+    let (number, words) = words.split_once(' ').unwrap_or((words, ""));
+    match number.parse::<u64>() {
+        Ok(number) => run_text(alloc, outside, Failing::at(kind, number), words),
+        Err(_) => Ok(String::from_str(alloc, "no number")?),
+    }
+}
+
+/// What a render does.
+pub fn told(alloc: Global, outside: &Outside, command: &str, words: &str) -> io::Result<String> {
+    match command {
+        "run" => run_text(alloc, outside, Failing::NONE, words),
+        "fail" => failing_text(alloc, outside, words),
+        "quiet" => quiet_text(alloc, outside, words),
+        _ => Ok(String::from_str(alloc, "unknown call")?),
+    }
+}
