@@ -2,7 +2,11 @@
 //! them that cost a logarithm.
 #![tactic(auto)]
 
+pub mod index;
 pub mod order;
+pub mod search;
 pub mod timed;
 
+pub use index::Index;
+pub use search::{key_in, offset_in, seen_in};
 pub use timed::Timed;
