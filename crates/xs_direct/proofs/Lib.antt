@@ -1,6 +1,7 @@
 pub mod DrawingLemmas
 pub mod FilterLemmas
 pub mod FrameLemmas
+pub mod HeldLemmas
 pub mod Rooms
 pub mod Stacks
 pub mod SumLemmas

@@ -1,18 +1,21 @@
-ghost use Rattle.std.specs.Prelude.{◌≡◌, ◌++◌, ◌∷◌, [], ◌<◌, ◌≤◌, IfOk, OnOk, flat_map};
+ghost use Rattle.std.specs.Prelude.{◌≡◌, ◌++◌, ◌∷◌, [], ◌<◌, ◌≤◌, Some, IfOk, OnOk, flat_map};
 ghost use Rattle.std.specs.List.{range_with_len};
 ghost use Rattle.xs_raster.specs.Bitmap.{bytes_of};
 ghost use Rattle.xs_rawfile.specs.Level.{four_bytes};
 ghost use Rattle.xs_meaning.specs.Bounds.{IsWithin};
+ghost use Rattle.xs_meaning.specs.Drawings.{Pictures, ArePixels};
+ghost use Rattle.xs_meaning.specs.Expressions.{drawings_of, root_of};
 ghost use Rattle.xs_meaning.specs.Points.{point};
 ghost use Rattle.xs_meaning.specs.Rows.{row_of, camera_at};
 ghost use Rattle.xs_direct.specs.Frames.{frame_file, line_of};
-ghost use Rattle.xs_direct.specs.Pictures.{pictures_in};
+ghost use Rattle.xs_direct.specs.Pictures.{pictures_in, AreHeld};
 
 use crate::filters::Filters;
 use crate::spot::Spot;
 use crate::values::row_at;
 use std::alloc::Global;
 use xs_check::GoodScene;
+use xs_meaning::expressions::only_own_drawings_count;
 use xs_pixel::{Film, Memory, Pixel};
 use xs_rawfile::Drawings;
 
@@ -50,13 +53,31 @@ pub fn frame_direct<K: Film>(
     drawings: &Drawings<K>,
     row: u32,
 ) -> Result<Vec<u8>, Memory>
-    ensures { IfOk result (λ v. v.items ≡ frame_file s.now (pictures_in drawings.now) row) }
+    ensures value { IfOk result (λ v. v.items ≡ frame_file s.now (pictures_in drawings.now) row) }
+
+    // where the film tells its pictures and the row's drawings are held, it is the frame of the pictures
+    ensures told { (pictures : Pictures) → K.pictures ≡ Some pictures → ArePixels pictures
+        → AreHeld drawings.now (drawings_of (root_of s.now row))
+        → IfOk result (λ v. v.items ≡ frame_file s.now pictures row) }
 {
+    held_drawings_make_the_frame(s, drawings, row);
     let camera = &s.scene().camera;
     let corner = s.place(FIRST, camera.peg, row);
     let mut bytes = header(alloc, camera.w, camera.h)?;
     push_lines(&mut bytes, s, drawings, row, corner, camera.w, camera.h)?;
     Ok(bytes)
+}
+
+/// The frame of the drawings that are held is that of the pictures which the film tells, where those of the
+/// row's expression are held: other drawings change no pixel.
+pub fn held_drawings_make_the_frame<K: Film>(s: &GoodScene, drawings: &Drawings<K>, row: u32)
+    ensures { (pictures : Pictures) → K.pictures ≡ Some pictures → ArePixels pictures
+        → AreHeld drawings.now (drawings_of (root_of s.now row))
+        → frame_file s.now (pictures_in drawings.now) row ≡ frame_file s.now pictures row }
+{
+    s.scene();
+    drawings.hold_their_pictures();
+    only_own_drawings_count();
 }
 
 /// The bytes of a frame that come before its pixels, with room for these.
