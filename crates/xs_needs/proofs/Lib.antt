@@ -1,0 +1,4 @@
+pub mod FreshLemmas
+pub mod Remembered
+pub mod Showings
+pub mod Ways

@@ -1,0 +1,14 @@
+use Rattle.std.proofs.Common.{◌≡◌, ℕ, true, Bool, List, IfSome, OnOk, Option, All, Contains, sym, ap, ◌∙◌, subst}
+use Rattle.xs_scene.specs.Records.{SceneRecord}
+use Rattle.xs_needs.specs.contracts.spot.SpotPartialEq.TheImpl as equality
+use Rattle.xs_needs.specs.declared.spot.Spot.{Spot}
+use Rattle.xs_needs.specs.Rules.{drawings_at, is_clear_at}
+use Rattle.xs_needs.specs.Found.{AreRight, AreWhole}
+use Rattle.xs_needs.proofs.Remembered.{exact, All-insert_entry}
+use Rattle.xs_needs.proofs.found.Known.note.Goals as goal
+
+pub returns-in-Ok : goal.returns-in-Ok
+returns-in-Ok c s all here =
+    subst (AreRight s) (sym c.in-Ok.ensures.entries)
+    (All-insert_entry (equality.eq-value).it exact (λ e. e.1 ≡ is_clear_at s e.0)
+    c.args.self.now.flags.entries c.args.spot c.args.clear all here)

@@ -1,0 +1,12 @@
+use Rattle.std.specs.Prelude.{◌≡◌, ℕ, Bool, List, All, Contains}
+use Rattle.xs_scene.specs.Records.{SceneRecord}
+use Rattle.xs_needs.specs.declared.spot.Spot.{Spot}
+use Rattle.xs_needs.specs.Rules.{drawings_at, is_clear_at}
+
+-- each flag says whether its spot is clear
+abbrev pub AreRight : SceneRecord → List (Spot × Bool) → Type 0
+AreRight s flags = All (λ e. e.1 ≡ is_clear_at s e.0) flags
+
+-- all drawings of each spot are there
+abbrev pub AreWhole : SceneRecord → List ℕ → List Spot → Type 0
+AreWhole s drawings spots = All (λ p. All (Contains drawings) (drawings_at s p)) spots
