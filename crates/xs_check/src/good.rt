@@ -4,6 +4,7 @@ ghost use Rattle.xs_check.specs.Finding.{Finds};
 ghost use Rattle.xs_check.specs.Passes.{Checking};
 
 use crate::cycles::{long_chains, node_cycles, peg_cycles, sheet_cycles};
+use crate::numbers::{Numbers, numbers_of};
 use crate::overlaps::overlaps;
 use crate::references::references;
 use crate::sizes::sizes;
@@ -16,7 +17,8 @@ use xs_scene::{Scene, Sheet};
 /// itself, and every size is within its limit.
 #[derive(Debug, Drop)]
 pub struct GoodScene {
-    scene: Scene,
+    pub(crate) scene: Scene,
+    pub(crate) numbers: Numbers,
 }
 
 impl Model for GoodScene {
@@ -24,11 +26,11 @@ impl Model for GoodScene {
 
     ghost Value = { SceneRecord };
 
-    ghost use Rattle.xs_check.specs.Good.{IsGood};
+    ghost use Rattle.xs_check.specs.Readers.{IsKept};
 
     ghost view = { λ g. g.scene };
 
-    ghost invariant = { λ g. IsGood g.scene };
+    ghost invariant = { λ g. IsKept g.scene g.numbers.firsts.items g.numbers.owners.items };
 }
 
 /// The first fault, in the order of the passes.
@@ -56,11 +58,14 @@ pub fn check(alloc: Global, s: Scene) -> Result<GoodScene, FieldFault>
 {
     first_fault(alloc, &s)?;
     s.in_range();
-    Ok(GoodScene { scene: s })
+    let numbers = numbers_of(alloc, s.levels.items())?;
+    Ok(GoodScene { scene: s, numbers })
 }
 
 impl GoodScene {
-    ghost use Rattle.std.specs.Prelude.{◌≡◌, ◌<◌, length};
+    ghost use Rattle.std.specs.Prelude.{◌≡◌, ◌<◌, ℕ, length};
+    ghost use Rattle.xs_scene.specs.declared.node.Ref.TheVariants.{Node as ToNode};
+    ghost use Rattle.xs_meaning.specs.Ends.{NodesEnd};
     ghost use Rattle.xs_meaning.specs.Walk.{sheet_at};
     ghost use Rattle.xs_check.specs.Good.{IsGood, IsGoodSheet};
 
@@ -77,6 +82,8 @@ impl GoodScene {
         requires { k < length self.now.sheets }
         ensures value { result.now ≡ sheet_at self.now.sheets k }
         ensures good { IsGoodSheet self.now result.now }
+        ensures ends { (n : ℕ) → n < length result.now.nodes
+            → NodesEnd result.now (length result.now.nodes) (ToNode n) }
     {
         let scene = &self.scene;
         &scene.sheets.items()[k as usize]

@@ -7,6 +7,7 @@ pub mod keys;
 pub mod pegs;
 
 pub use cells::cell;
+pub use keys::own_offset;
 pub use pegs::place;
 
 #[cfg(test)]
