@@ -2,3 +2,4 @@ pub mod FreshLemmas
 pub mod Remembered
 pub mod Showings
 pub mod Ways
+pub mod GatherLemmas

@@ -1,5 +1,5 @@
 -- Spots that compare as equal are the same, and what is remembered stays right
-use Rattle.std.proofs.Common.{◌≡◌, ℕ, true, false, Bool, ◌&&◌, cond, eqb, Option, Some, None, IfSome, List, [], ◌∷◌, ◌++◌, All, Contains, refl, ap, sym, ◌∙◌, subst, arith}
+use Rattle.std.proofs.Common.{◌≡◌, ℕ, true, Bool, ◌&&◌, eqb, Option, Some, None, IfSome, List, [], ◌∷◌, ◌++◌, All, Contains, refl, ap, subst}
 use Rattle.std.specs.List.{list_any}
 use Rattle.std.specs.Map.{lookup}
 use Rattle.std.proofs.lemmas.Bool.{eqb-true}

@@ -27,7 +27,7 @@ use Rattle.xs_needs.specs.declared.spot.At.TheVariants.{Row, Column, Node as Nod
 use Rattle.xs_needs.specs.declared.spot.Spot.{Spot}
 use Rattle.xs_needs.specs.declared.rule.Rule.TheVariants.{Clear as ClearRule, Pixel}
 use Rattle.xs_needs.specs.Shown.{Showing, drawings_in, showing_of, showing_staying, by_showing}
-use Rattle.xs_needs.specs.Rules.{spot, input_spot, showing_at, shown, rule_of_seen, rule_of_listed, rule_of_node, rule_at, rule_of, showing_by}
+use Rattle.xs_needs.specs.Rules.{spot, input_spot, showing_at, shown, rule_of_seen, rule_of_listed, rule_of_node, rule_in, rule_of, showing_by, drawings_over}
 
 -- ---- what an expression shows
 
@@ -190,11 +190,6 @@ over-drawings None w = refl
 over-drawings (Some a) None = sym (append-nil a)
 over-drawings (Some a) (Some b) = refl
 
--- the drawings of terminals, the last one's first
-abbrev pub drawings_over : (Ref → Showing) → List Ref → List ℕ
-drawings_over E [] = []
-drawings_over E (t ∷ ts) = drawings_over E ts ++ drawings_in (E t)
-
 above-drawings :
     (levels : List LevelRecord) (E : Ref → Showing) (ts : List Ref) (was : Showing)
     → drawings_in (above_by (by_showing levels) was (map E ts)) ≡ drawings_over E ts ++ drawings_in was
@@ -295,7 +290,7 @@ node-rule s k row (Some (Delete input styles)) = shown-input s k input row (dele
 
 column-rule :
     (s : SceneRecord) (k c row : ℕ)
-    → showing_at s k (Column c) row ≡ showing_by s (shown s) k row (rule_at s k (Column c) row)
+    → showing_at s k (Column c) row ≡ showing_by s (shown s) k row (rule_in s k (Column c) row)
 column-rule s k c row =
     whole_input-column (by_showing s.levels) s.sheets k c row none_dropped
     ∙ unmoved
@@ -311,7 +306,7 @@ column-rule s k c row =
 
 place-rule :
     (s : SceneRecord) → AllEnd s.sheets → (k : ℕ) (at : At) (row : ℕ)
-    → showing_at s k at row ≡ showing_by s (shown s) k row (rule_at s k at row)
+    → showing_at s k at row ≡ showing_by s (shown s) k row (rule_in s k at row)
 place-rule s ends k Row row =
     whole_row-row (by_showing s.levels) s.sheets ends k row none_dropped
     ∙ ap (λ v. composed_by (by_showing s.levels) (map v (terminals_of (sheet_at s.sheets k))))

@@ -1,5 +1,5 @@
 -- Where every way through a scene ends, so do the ways from spot to spot
-use Rattle.std.proofs.Common.{◌≡◌, ◌≤◌, ◌<◌, ◌+◌, ◌-◌, ◌*◌, ℕ, zero, suc, Option, Some, None, List, [], ◌∷◌, length, find, slice_get, All, IfSome, refl, sym, ap, subst, ⊎_elim, arith}
+use Rattle.std.proofs.Common.{◌≡◌, ◌≤◌, ◌+◌, ◌-◌, ◌*◌, ℕ, zero, suc, Option, Some, None, List, length, find, slice_get, All, IfSome, sym, subst, ⊎_elim, arith}
 use Rattle.std.specs.Option.{option_map_or}
 use Rattle.std.proofs.lemmas.Bool.{cases_lt}
 use Rattle.std.proofs.lemmas.Option.{slice_get_past}
@@ -15,12 +15,11 @@ use Rattle.xs_scene.specs.Records.{SceneRecord, ColumnRecord, ExposureRecord, Le
 use Rattle.xs_meaning.specs.Cells.{cell_at, covers, shown_after}
 use Rattle.xs_meaning.specs.Ends.{AllEnd, InputsHave, NodesEnd, ShownHas, SheetsEnd}
 use Rattle.xs_meaning.specs.Palettes.{is_clear_pixel, pixel_of}
-use Rattle.xs_meaning.specs.Walk.{sheet_at, column_at, no_column, terminals_of}
+use Rattle.xs_meaning.specs.Walk.{sheet_at, column_at, no_column}
 use Rattle.xs_meaning.proofs.Depth.{find-has}
 use Rattle.xs_meaning.proofs.Lists.{by_test, All-slice_index_or}
 use Rattle.xs_needs.specs.declared.spot.At.TheVariants.{Row, Column, Node as NodeAt}
 use Rattle.xs_needs.specs.declared.spot.Spot.{Spot}
-use Rattle.xs_needs.specs.declared.rule.Rule.{Rule}
 use Rattle.xs_needs.specs.declared.rule.Rule.TheVariants.{Clear, Pixel}
 use Rattle.xs_needs.specs.Rules.{spot, input_spot, rule_of, rule_of_seen, rule_of_listed, rule_of_node, LeadsTo, WaysEnd}
 

@@ -1,4 +1,4 @@
-use Rattle.std.specs.Prelude.{◌<◌, ◌-◌, ℕ, Bool, zero, suc, Option, Some, None, List, [], ◌∷◌, map, length, slice_get, is_none, All, if◌then◌else◌}
+use Rattle.std.specs.Prelude.{◌<◌, ◌-◌, ℕ, Bool, zero, suc, Option, Some, None, List, [], ◌∷◌, ◌++◌, map, length, slice_get, is_none, All, if◌then◌else◌}
 use Rattle.xs_scene.specs.declared.seen.Seen.{Seen}
 use Rattle.xs_scene.specs.declared.seen.Seen.TheVariants.{Empty, Drawing as SeenDrawing, Row as SeenRow}
 use Rattle.xs_scene.specs.declared.node.Ref.{Ref}
@@ -11,6 +11,7 @@ use Rattle.xs_meaning.specs.Drawings.{number_of}
 use Rattle.xs_meaning.specs.Expressions.{staying}
 use Rattle.xs_meaning.specs.Palettes.{none_dropped, pixel_of, is_clear_pixel}
 use Rattle.xs_meaning.specs.Walk.{sheet_at, column_at, terminals_of, composed_by, whole_row, whole_input}
+use Rattle.xs_check.specs.Good.{files_of}
 use Rattle.xs_needs.specs.declared.spot.At.{At}
 use Rattle.xs_needs.specs.declared.spot.At.TheVariants.{Row, Column, Node as NodeAt}
 use Rattle.xs_needs.specs.declared.spot.Spot.{Spot}
@@ -66,13 +67,22 @@ rule_of_node k row (Some (Blur input radius)) = Same (input_spot k input row)
 rule_of_node k row (Some (Keep input styles)) = Same (input_spot k input row)
 rule_of_node k row (Some (Delete input styles)) = Same (input_spot k input row)
 
-abbrev pub rule_at : SceneRecord → ℕ → At → ℕ → Rule
-rule_at s k Row row = Over (terminals_of (sheet_at s.sheets k))
-rule_at s k (Column c) row = rule_of_seen s.levels (cell_at (column_at (sheet_at s.sheets k) c) row)
-rule_at s k (NodeAt n) row = rule_of_node k row (slice_get (sheet_at s.sheets k).nodes n)
+abbrev pub rule_in : SceneRecord → ℕ → At → ℕ → Rule
+rule_in s k Row row = Over (terminals_of (sheet_at s.sheets k))
+rule_in s k (Column c) row = rule_of_seen s.levels (cell_at (column_at (sheet_at s.sheets k) c) row)
+rule_in s k (NodeAt n) row = rule_of_node k row (slice_get (sheet_at s.sheets k).nodes n)
 
 unfoldable pub rule_of : SceneRecord → Spot → Rule
-rule_of s p = rule_at s p.sheet p.at p.row
+rule_of s p = rule_in s p.sheet p.at p.row
+
+-- what a rule of a sheet leads to is there: drawings of the scene, and spots in its sheets
+abbrev pub AreThere : SceneRecord → ℕ → Rule → Type 0
+AreThere s k Clear = Unit {0}
+AreThere s k Pixel = Unit {0}
+AreThere s k (Drawing d) = d < length (files_of s.levels)
+AreThere s k (Same next) = next.sheet < length s.sheets
+AreThere s k (Pair op first second) = (first.sheet < length s.sheets) × (second.sheet < length s.sheets)
+AreThere s k (Over terminals) = k < length s.sheets
 
 -- what a rule shows at a row of a sheet, over what other spots show
 abbrev pub showing_by : SceneRecord → (Spot → Showing) → ℕ → ℕ → Rule → Showing
@@ -84,6 +94,11 @@ showing_by s E k row (Pair op first second) =
     showing_staying (staying op (is_none (E first)) (is_none (E second))) (E first) (E second)
 showing_by s E k row (Over terminals) =
     composed_by (by_showing s.levels) (map (λ t. E (input_spot k t row)) terminals)
+
+-- the drawings of columns and nodes that are laid over one another, the topmost one's first
+abbrev pub drawings_over : (Ref → Showing) → List Ref → List ℕ
+drawings_over E [] = []
+drawings_over E (t ∷ ts) = drawings_over E ts ++ drawings_in (E t)
 
 -- ---- where the ways end
 

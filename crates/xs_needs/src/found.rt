@@ -14,7 +14,7 @@ use xs_pixel::Memory;
 /// Which spots are clear, of those that were asked.
 #[derive(Drop)]
 pub struct Known {
-    flags: IndexMap<Spot, bool>,
+    pub(crate) flags: IndexMap<Spot, bool>,
 }
 
 impl Known {
@@ -50,8 +50,8 @@ impl Known {
 /// The drawings so far, and the spots whose drawings are all among them.
 #[derive(Drop)]
 pub struct Gathered {
-    drawings: IndexSet<u32>,
-    whole: IndexSet<Spot>,
+    pub(crate) drawings: IndexSet<u32>,
+    pub(crate) whole: IndexSet<Spot>,
 }
 
 impl Gathered {
@@ -105,4 +105,11 @@ impl Gathered {
     {
         Ok(Vec::from_slice(alloc, self.drawings.as_slice())?)
     }
+}
+
+/// All that is remembered.
+#[derive(Drop)]
+pub struct Found {
+    pub known: Known,
+    pub gathered: Gathered,
 }

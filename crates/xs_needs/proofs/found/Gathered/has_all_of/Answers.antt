@@ -1,9 +1,5 @@
-use Rattle.std.proofs.Common.{◌≡◌, ℕ, true, Bool, List, IfSome, OnOk, Option, All, Contains, sym, ap, ◌∙◌, subst}
-use Rattle.xs_scene.specs.Records.{SceneRecord}
+use Rattle.std.proofs.Common.{sym, ◌∙◌}
 use Rattle.xs_needs.specs.contracts.spot.SpotPartialEq.TheImpl as equality
-use Rattle.xs_needs.specs.declared.spot.Spot.{Spot}
-use Rattle.xs_needs.specs.Rules.{drawings_at, is_clear_at}
-use Rattle.xs_needs.specs.Found.{AreRight, AreWhole}
 use Rattle.xs_needs.proofs.Remembered.{exact, whole-any}
 use Rattle.xs_needs.proofs.found.Gathered.has_all_of.Goals as goal
 
