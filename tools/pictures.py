@@ -1,0 +1,242 @@
+"""PNG pictures, raw level files and raw frame files, with Python's standard library alone.
+
+A picture here is its width, its height and its rows from the top down. A row is a flat list of
+red, green, blue, alpha, red, .. with straight colours.
+"""
+import struct
+import zlib
+
+SIGNATURE = b"\x89PNG\r\n\x1a\n"
+SAMPLES = {0: 1, 2: 3, 3: 1, 4: 2, 6: 4}
+
+
+class Picture:
+    """Straight pixels; `most` is the largest value of a sample, 255 or 65535."""
+
+    def __init__(self, width, height, rows, most=255):
+        self.width = width
+        self.height = height
+        self.rows = rows
+        self.most = most
+
+    def in_8_bits(self):
+        if self.most == 255:
+            return self
+        rows = [[(v * 255 + 32767) // 65535 for v in row] for row in self.rows]
+        return Picture(self.width, self.height, rows)
+
+
+# Reading PNG
+
+def chunks(data):
+    if data[:8] != SIGNATURE:
+        raise ValueError("this is no PNG file")
+    at = 8
+    while at + 8 <= len(data):
+        length = struct.unpack(">I", data[at:at + 4])[0]
+        yield data[at + 4:at + 8], data[at + 8:at + 8 + length]
+        at += 12 + length
+
+
+def nearest(left, above, corner):
+    """The one of three neighbours that is nearest to left + above - corner."""
+    guess = left + above - corner
+    by_left, by_above, by_corner = abs(guess - left), abs(guess - above), abs(guess - corner)
+    if by_left <= by_above and by_left <= by_corner:
+        return left
+    return above if by_above <= by_corner else corner
+
+
+def unfiltered(kind, line, above, step):
+    """The bytes of a line, which the file holds as differences from its neighbours."""
+    line = bytearray(line)
+    if kind == 2:
+        return bytearray((a + b) & 255 for a, b in zip(line, above))
+    if kind == 0:
+        return line
+    for i in range(len(line)):
+        left = line[i - step] if i >= step else 0
+        corner = above[i - step] if i >= step else 0
+        if kind == 1:
+            add = left
+        elif kind == 3:
+            add = (left + above[i]) // 2
+        elif kind == 4:
+            add = nearest(left, above[i], corner)
+        else:
+            raise ValueError("a line has an unknown filter")
+        line[i] = (line[i] + add) & 255
+    return line
+
+
+def samples_of(line, bits, count):
+    """The numbers of a line."""
+    if bits == 8:
+        return list(line[:count])
+    if bits == 16:
+        return list(struct.unpack(">%dH" % count, bytes(line[:2 * count])))
+    each = 8 // bits
+    mask = (1 << bits) - 1
+    return [(line[i // each] >> (8 - bits - bits * (i % each))) & mask for i in range(count)]
+
+
+def coloured(numbers, colour_type, bits, palette, clear):
+    """The straight pixels of the numbers of a line."""
+    most = (1 << bits) - 1
+    full = 65535 if bits == 16 else 255
+    out = []
+    if colour_type == 6:
+        return numbers
+    if colour_type == 3:
+        for n in numbers:
+            out += palette[n]
+    elif colour_type == 2:
+        for i in range(0, len(numbers), 3):
+            rgb = numbers[i:i + 3]
+            out += rgb + [0 if tuple(rgb) == clear else full]
+    elif colour_type == 4:
+        for i in range(0, len(numbers), 2):
+            out += [numbers[i]] * 3 + [numbers[i + 1]]
+    else:
+        for n in numbers:
+            grey = n if bits >= 8 else n * 255 // most
+            out += [grey] * 3 + [0 if (n,) == clear else full]
+    return out
+
+
+def palette_of(colours, alphas):
+    count = len(colours) // 3
+    alphas = list(alphas) + [255] * (count - len(alphas))
+    return [list(colours[3 * i:3 * i + 3]) + [alphas[i]] for i in range(count)]
+
+
+def read_png(path):
+    with open(path, "rb") as file:
+        data = file.read()
+    header, colours, transparent, packed = None, b"", b"", b""
+    for name, body in chunks(data):
+        if name == b"IHDR":
+            header = struct.unpack(">IIBBBBB", body)
+        elif name == b"PLTE":
+            colours = body
+        elif name == b"tRNS":
+            transparent = body
+        elif name == b"IDAT":
+            packed += body
+    if header is None:
+        raise ValueError("this PNG file has no header")
+    width, height, bits, colour_type, _, _, interlaced = header
+    if interlaced:
+        raise ValueError("interlaced PNG files are not read: save it without interlacing")
+    per_pixel = SAMPLES[colour_type]
+    palette = palette_of(colours, transparent) if colour_type == 3 else None
+    clear = None
+    if transparent and colour_type in (0, 2):
+        clear = struct.unpack(">%dH" % per_pixel, transparent)
+    lines = zlib.decompress(packed)
+    length = (width * per_pixel * bits + 7) // 8
+    step = max(1, per_pixel * bits // 8)
+    above, rows = bytearray(length), []
+    for y in range(height):
+        at = y * (length + 1)
+        above = unfiltered(lines[at], lines[at + 1:at + 1 + length], above, step)
+        numbers = samples_of(above, bits, width * per_pixel)
+        rows.append(coloured(numbers, colour_type, bits, palette, clear))
+    return Picture(width, height, rows, 65535 if bits == 16 else 255)
+
+
+# Writing PNG
+
+def chunk(name, body):
+    return struct.pack(">I", len(body)) + name + body + struct.pack(">I", zlib.crc32(name + body))
+
+
+def header_of(width, height):
+    return chunk(b"IHDR", struct.pack(">IIBBBBB", width, height, 8, 6, 0, 0, 0))
+
+
+def packed_rows(picture):
+    lines = bytearray()
+    for row in picture.rows:
+        lines.append(0)
+        lines += bytes(row)
+    return zlib.compress(bytes(lines), 9)
+
+
+def write_png(path, picture):
+    body = header_of(picture.width, picture.height)
+    body += chunk(b"IDAT", packed_rows(picture)) + chunk(b"IEND", b"")
+    with open(path, "wb") as file:
+        file.write(SIGNATURE + body)
+
+
+def write_animation(path, pictures, rate):
+    """An animated PNG that runs for ever, `rate` pictures a second."""
+    width, height = pictures[0].width, pictures[0].height
+    body = header_of(width, height) + chunk(b"acTL", struct.pack(">II", len(pictures), 0))
+    number = 0
+    for i, picture in enumerate(pictures):
+        if (picture.width, picture.height) != (width, height):
+            raise ValueError("the frames differ in size")
+        control = struct.pack(">IIIIIHHBB", number, width, height, 0, 0, 1, rate, 0, 0)
+        body += chunk(b"fcTL", control)
+        number += 1
+        packed = packed_rows(picture)
+        if i == 0:
+            body += chunk(b"IDAT", packed)
+        else:
+            body += chunk(b"fdAT", struct.pack(">I", number) + packed)
+            number += 1
+    with open(path, "wb") as file:
+        file.write(SIGNATURE + body + chunk(b"IEND", b""))
+
+
+# Premultiplied pixels, levels and frames
+
+def premultiplied(row):
+    """The bytes of a row of a level: each colour times its alpha, to the nearest whole number."""
+    out = bytearray(row)
+    for i in range(0, len(row), 4):
+        a = row[i + 3]
+        if a != 255:
+            for c in (i, i + 1, i + 2):
+                out[c] = (row[c] * a + 127) // 255
+    return bytes(out)
+
+
+def straight(row):
+    """The straight pixels of a row of a frame."""
+    out = list(row)
+    for i in range(0, len(row), 4):
+        m = row[i + 3]
+        if 0 < m < 255:
+            for c in (i, i + 1, i + 2):
+                out[c] = min(255, (row[c] * 255 + m // 2) // m)
+    return out
+
+
+def write_level(path, kind, x, y, width, height, rows):
+    """`rows` are the bytes of each row, from the lowest up; kind 0 is colour, 1 CM32."""
+    if not (1 <= width <= 4096 and 1 <= height <= 4096):
+        raise ValueError("the sides of a drawing are 1 to 4096")
+    if not (-65536 <= x <= 65536 and -65536 <= y <= 65536):
+        raise ValueError("a drawing lies within 65536 of the origin")
+    with open(path, "wb") as file:
+        file.write(b"XRL1" + struct.pack("<BiiII", kind, x, y, width, height) + b"".join(rows))
+
+
+def word(ink, paint, tone):
+    """The four bytes of a CM32 word."""
+    return struct.pack("<I", ink << 20 | paint << 8 | tone)
+
+
+def read_frame(path):
+    with open(path, "rb") as file:
+        data = file.read()
+    if data[:4] != b"XFR1" or len(data) < 12:
+        raise ValueError(path + " is no frame")
+    width, height = struct.unpack("<II", data[4:12])
+    if len(data) != 12 + 4 * width * height:
+        raise ValueError(path + " has another length than its sides say")
+    rows = [straight(data[12 + 4 * width * y:12 + 4 * width * (y + 1)]) for y in range(height)]
+    return Picture(width, height, rows[::-1])
