@@ -1,5 +1,5 @@
 //! What a checked scene says of one row, and its drawings by their numbers.
-ghost use Rattle.std.specs.Prelude.{◌≡◌, ◌<◌, [], Some, length, slice_get, slice_index_or, MatchOption};
+ghost use Rattle.std.specs.Prelude.{◌≡◌, ◌<◌, [], Some, length, slice_get, slice_index_or};
 ghost use Rattle.std.specs.Option.{option_map};
 ghost use Rattle.xs_scene.specs.Ranges.{IsOffset};
 ghost use Rattle.xs_meaning.specs.Bounds.{IsWithin};
@@ -11,15 +11,14 @@ ghost use Rattle.xs_meaning.specs.Palettes.{style_at as pixel_at};
 ghost use Rattle.xs_meaning.specs.Places.{peg_at, place_of};
 ghost use Rattle.xs_meaning.specs.Places.{own_offset as offset_at};
 ghost use Rattle.xs_meaning.specs.Points.{point};
-ghost use Rattle.xs_meaning.specs.Walk.{no_sheet, sheet_at, column_at};
+ghost use Rattle.xs_meaning.specs.Walk.{sheet_at, column_at};
 ghost use Rattle.xs_check.specs.Good.{IsGood, IsThere, HasPalette, files_of};
 ghost use Rattle.xs_check.specs.Readers.{IsSeen, IsSpot};
-ghost use Rattle.xs_sheet.specs.Taken.{newest};
 
 use crate::good::GoodScene;
 use xs_index::{key_in, offset_in, seen_in};
 use xs_pixel::{Pixel, Style};
-use xs_scene::{Colours, Kind, Level, Name, Seen, Sheet, Shown, StyleKey};
+use xs_scene::{Kind, Level, Name, Seen, Shown, StyleKey};
 
 /// How many pegs a chain of parents can have.
 const LONGEST_CHAIN: u32 = 64;
