@@ -8,6 +8,7 @@ use Rattle.std.proofs.lemmas.Option.{slice_get-get_or}
 use Rattle.xs_scene.specs.declared.column.Shown.TheVariants.{Drawing}
 use Rattle.xs_scene.specs.Records.{SceneRecord, LevelRecord}
 use Rattle.xs_meaning.specs.Drawings.{number_of, level_of}
+use Rattle.xs_index.specs.declared.index.Index.{Index}
 use Rattle.xs_check.specs.Good.{files_of, level_at, no_drawings, IsThere}
 use Rattle.xs_check.specs.Readers.{drawings_before, IsNumbering, IsSpot, IsKept}
 
@@ -85,19 +86,19 @@ spot levels firsts owners d i first level kept below owner at is =
     )
 
 -- of what is kept with a scene: how many drawings there are, and the first number of a level
-pub kept_drawings : (s : SceneRecord) (firsts owners : List ℕ) → IsKept s firsts owners → length owners ≡ length (files_of s.levels)
-kept_drawings s firsts owners kept = kept.numbering.owners_length ∙ all_drawings s.levels
+pub kept_drawings : (s : SceneRecord) (index : Index) (firsts owners : List ℕ) → IsKept s index firsts owners → length owners ≡ length (files_of s.levels)
+kept_drawings s index firsts owners kept = kept.numbering.owners_length ∙ all_drawings s.levels
 
 pub kept_number :
-    (s : SceneRecord) (firsts owners : List ℕ) (level index first : ℕ) → IsKept s firsts owners
+    (s : SceneRecord) (kept_index : Index) (firsts owners : List ℕ) (level index first : ℕ) → IsKept s kept_index firsts owners
     → IsThere s (Drawing level index) → first ≡ get_or firsts level first
     → (level < length firsts) × (first + index ≡ number_of s.levels level index) × (first + index < length owners)
-kept_number s firsts owners level index first kept there at =
+kept_number s kept_index firsts owners level index first kept there at =
     let inside : level < length firsts = omega (arith, kept.numbering.firsts_length, there.0) in
     let from : first ≡ drawings_before s.levels level =
     at ∙ get_or_default firsts level first 0 inside ∙ kept.numbering.first level there.0
     in (
       inside,
       ap (λ n. n + index) from,
-      omega (arith, from, number_below s.levels level index there.0 there.1, kept_drawings s firsts owners kept),
+      omega (arith, from, number_below s.levels level index there.0 there.1, kept_drawings s kept_index firsts owners kept),
     )

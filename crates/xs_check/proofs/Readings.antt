@@ -1,41 +1,23 @@
--- What a checked scene shows is there
-use Rattle.std.proofs.Common.{◌≡◌, ◌-◌, ℕ, Option, Some, None, IfSome, All, find, pos, refl, sym, ap, subst, arith}
+-- What is told of the lists of a checked scene holds also of those that it lacks
+use Rattle.std.proofs.Common.{◌≡◌, ◌+◌, ◌-◌, ℕ, zero, suc, Option, Some, None, IfSome, All, get_or, AllPairs, find, ℤ, pos, ◌+ℤ◌, refl, sym, ap, ◌∙◌, arith}
 use Rattle.std.specs.Option.{option_map_or}
+use Rattle.std.proofs.lemmas.Int.{ints}
+use mathlib.Core.Path.{ap₂}
 use Rattle.xs_scene.specs.declared.column.Shown.{Shown}
 use Rattle.xs_scene.specs.declared.column.Shown.TheVariants.{Drawing, Sheet}
 use Rattle.xs_scene.specs.declared.seen.Seen.TheVariants.{Empty}
-use Rattle.xs_scene.specs.Records.{SceneRecord, SheetRecord, ColumnRecord, ExposureRecord}
+use Rattle.xs_scene.specs.Records.{SceneRecord, SheetRecord, ColumnRecord, PegRecord, ColoursRecord, ExposureRecord}
 use Rattle.xs_scene.specs.Ranges.{IsExposure, IsShown}
 use Rattle.xs_meaning.specs.Cells.{cell_at, covers, shown_after}
-use Rattle.xs_meaning.specs.Places.{own_offset, place_up, place_of, peg_at, no_peg}
-use Rattle.xs_meaning.specs.Points.{point}
+use Rattle.xs_meaning.specs.Drawings.{no_colours}
+use Rattle.xs_meaning.specs.Places.{own_offset, place_up, peg_at, no_peg}
+use Rattle.xs_meaning.specs.Points.{Point, point, origin, plus}
 use Rattle.xs_meaning.specs.Walk.{no_sheet, no_column, sheet_at, column_at}
 use Rattle.xs_meaning.proofs.Lists.{All-slice_index_or}
 use Rattle.xs_meaning.proofs.Depth.{find-has}
-use Rattle.xs_check.specs.Good.{IsGood, IsThere}
+use Rattle.xs_sheet.proofs.Sums.{IsSum, place_up-some}
+use Rattle.xs_check.specs.Good.{IsGood, IsThere, AreApart, DifferInRow, DifferInRowOrStyle}
 use Rattle.xs_check.specs.Readers.{IsSeen}
-
--- ---- in a sheet that the scene lacks
-
-pub nothing_seen : (k : SheetRecord) (c row : ℕ) → no_sheet ≡ k → Empty ≡ cell_at (column_at k c) row
-unfolding cell_at
-nothing_seen k c row lacks = ap (λ (k : SheetRecord). cell_at (column_at k c) row) lacks
-
-pub unmoved : (k : SheetRecord) (peg row : ℕ) → no_sheet ≡ k → point (pos 0) (pos 0) ≡ own_offset (peg_at k peg).keys row
-unfolding own_offset
-unmoved k peg row lacks = ap (λ (k : SheetRecord). own_offset (peg_at k peg).keys row) lacks
-
-pub unmoved_past : (k : SheetRecord) (peg row : ℕ) → peg_at k peg ≡ no_peg → point (pos 0) (pos 0) ≡ own_offset (peg_at k peg).keys row
-unfolding own_offset
-unmoved_past k peg row lacks = ap (λ p. own_offset p.keys row) (sym lacks)
-
-unplaced_there : (peg : Option ℕ) (row : ℕ) → point (pos 0) (pos 0) ≡ place_of no_sheet peg row
-unfolding place_up own_offset
-unplaced_there None row = refl
-unplaced_there (Some i) row = refl
-
-pub unplaced : (k : SheetRecord) (peg : Option ℕ) (row : ℕ) → no_sheet ≡ k → point (pos 0) (pos 0) ≡ place_of k peg row
-unplaced k peg row lacks = subst (λ (k : SheetRecord). point (pos 0) (pos 0) ≡ place_of k peg row) lacks (unplaced_there peg row)
 
 -- ---- what is seen is there
 
@@ -54,17 +36,58 @@ column_there s column row all = at (find (covers row) column.cells) (find-has (S
     at None has = tt
     at (Some e) has = shows s (row - e.from) e.shown has.0 has.1.shown
 
-abbrev AllShow : SceneRecord → SheetRecord → Type 0
-AllShow s k = All (λ column. All (Shows s) column.cells) k.columns
+-- ---- of each list by its number
 
-pub cell_there : (s : SceneRecord) → IsGood s → (k c row : ℕ) → IsSeen s (cell_at (column_at (sheet_at s.sheets k) c) row)
-cell_there s good k c row =
-    let sheets : All (AllShow s) s.sheets =
-    λ i d below j column inside m e within. (
-      ((good.sheets i d below).columns j column inside).shown m e within,
-      ((good.ranges.sheets i d below).columns j column inside).cells m e within,
-    )
-    in
-    let sheet = All-slice_index_or (AllShow s) s.sheets k no_sheet (λ i d below. absurd (omega arith)) sheets in
-    column_there s (column_at (sheet_at s.sheets k) c) row
-    (All-slice_index_or (λ (column : ColumnRecord). All (Shows s) column.cells) (sheet_at s.sheets k).columns c no_column (λ i d below. absurd (omega arith)) sheet)
+module _ (s : SceneRecord) (good : IsGood s) where
+  of_column : (P : ColumnRecord → Type 0) → P no_column
+      → All (λ (k : SheetRecord). All P k.columns) s.sheets → (k c : ℕ) → P (column_at (sheet_at s.sheets k) c)
+  of_column P none all k c =
+      All-slice_index_or P (sheet_at s.sheets k).columns c no_column none
+      (All-slice_index_or (λ (k : SheetRecord). All P k.columns) s.sheets k no_sheet (λ i d below. absurd (omega arith)) all)
+
+  pub cell_there : (k c row : ℕ) → IsSeen s (cell_at (column_at (sheet_at s.sheets k) c) row)
+  cell_there k c row =
+      column_there s (column_at (sheet_at s.sheets k) c) row
+      (of_column (λ column. All (Shows s) column.cells) (λ i d below. absurd (omega arith))
+      (λ i d below j column inside m e within. (
+        ((good.sheets i d below).columns j column inside).shown m e within,
+        ((good.ranges.sheets i d below).columns j column inside).cells m e within,
+      )) k c)
+
+  pub cells_apart : (k c : ℕ) → AllPairs AreApart (column_at (sheet_at s.sheets k) c).cells
+  cells_apart =
+      of_column (λ column. AllPairs AreApart column.cells) (λ i j d less below. absurd (omega arith))
+      (λ i d below j column inside. ((good.sheets i d below).columns j column inside).apart)
+
+  pub keys_differ : (k i : ℕ) → AllPairs DifferInRow (peg_at (sheet_at s.sheets k) i).keys
+  keys_differ k i =
+      All-slice_index_or (λ (peg : PegRecord). AllPairs DifferInRow peg.keys) (sheet_at s.sheets k).pegs i no_peg (λ i j d less below. absurd (omega arith))
+      (All-slice_index_or (λ (k : SheetRecord). All (λ (peg : PegRecord). AllPairs DifferInRow peg.keys) k.pegs) s.sheets k no_sheet (λ i d below. absurd (omega arith))
+      (λ i d below j peg inside. ((good.sheets i d below).pegs j peg inside).differ))
+
+  pub style_keys_differ : (p : ℕ) → AllPairs DifferInRowOrStyle (get_or s.palettes p no_colours).keys
+  style_keys_differ p =
+      All-slice_index_or (λ (c : ColoursRecord). AllPairs DifferInRowOrStyle c.keys) s.palettes p no_colours (λ i j d less below. absurd (omega arith))
+      (λ i d below. (good.palettes i d below).differ)
+
+-- ---- the chain of a peg
+
+pub place_link :
+    (k : SheetRecord) (row number n : ℕ) (own parent : Option ℕ) (at : Point) → own ≡ Some number
+    → at ≡ own_offset (peg_at k number).keys row → parent ≡ (peg_at k number).parent
+    → place_up (n + 1) k own row ≡ plus at (place_up n k parent row)
+place_link k row number n own parent at is offset above =
+    ap (λ o. place_up (n + 1) k o row) is ∙ place_up-some k row number n
+    ∙ ap₂ plus (sym offset) (ap (λ o. place_up n k o row) (sym above))
+
+ended : (n : ℕ) (k : SheetRecord) (row : ℕ) → place_up n k None row ≡ origin
+unfolding place_up
+ended zero k row = refl
+ended (suc n) k row = refl
+
+-- at the end of a chain the sum is whole
+pub sum_ends : (taken : ℕ) (k : SheetRecord) (next : Option ℕ) (row : ℕ) (total at : Point) → next ≡ None → IsSum taken k next row total at → at ≡ total
+sum_ends taken k next row total at none sum =
+    ap₂ point (let e : at.x ≡ at.x +ℤ pos 0 = omega (arith, ints) in e) (let e : at.y ≡ at.y +ℤ pos 0 = omega (arith, ints) in e)
+    ∙ ap (plus at) (sym (ended (64 - taken) k row)) ∙ ap (λ o. plus at (place_up (64 - taken) k o row)) (sym none)
+    ∙ sum.1

@@ -5,6 +5,8 @@ use Rattle.xs_scene.specs.declared.seen.Seen.{Seen}
 use Rattle.xs_scene.specs.declared.seen.Seen.TheVariants.{Empty, Drawing, Row}
 use Rattle.xs_scene.specs.Records.{SceneRecord, LevelRecord}
 use Rattle.xs_meaning.specs.Drawings.{level_of}
+use Rattle.xs_index.specs.declared.index.Index.{Index}
+use Rattle.xs_index.specs.Index.{IsIndexOf}
 use Rattle.xs_check.specs.Good.{IsGood, IsThere, files_of}
 
 -- what a column is seen to show is there: the level and the drawing, or the sheet, of which a row is shown
@@ -37,7 +39,8 @@ pub record IsSpot (levels : List LevelRecord) (d place : ℕ) (owner : LevelReco
   pub file : slice_get (files_of levels) d ≡ Some (slice_index_or owner.drawings place [])
 
 -- what is kept with a checked scene
-pub record IsKept (s : SceneRecord) (firsts owners : List ℕ) : Type 0 where
+pub record IsKept (s : SceneRecord) (index : Index) (firsts owners : List ℕ) : Type 0 where
   pub good : IsGood s
+  pub index_of : IsIndexOf s index
   pub numbering : IsNumbering s.levels (length s.levels) firsts owners
   pub few : length owners < 2 ^ 32

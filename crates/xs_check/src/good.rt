@@ -10,6 +10,7 @@ use crate::references::references;
 use crate::sizes::sizes;
 use std::alloc::Global;
 use std::marker::Model;
+use xs_index::Index;
 use xs_json::{Field, FieldFault, Path, Place};
 use xs_scene::{Scene, Sheet};
 
@@ -18,6 +19,7 @@ use xs_scene::{Scene, Sheet};
 #[derive(Debug, Drop)]
 pub struct GoodScene {
     pub(crate) scene: Scene,
+    pub(crate) index: Index,
     pub(crate) numbers: Numbers,
 }
 
@@ -30,7 +32,7 @@ impl Model for GoodScene {
 
     ghost view = { λ g. g.scene };
 
-    ghost invariant = { λ g. IsKept g.scene g.numbers.firsts.items g.numbers.owners.items };
+    ghost invariant = { λ g. IsKept g.scene g.index g.numbers.firsts.items g.numbers.owners.items };
 }
 
 /// The first fault, in the order of the passes.
@@ -58,8 +60,13 @@ pub fn check(alloc: Global, s: Scene) -> Result<GoodScene, FieldFault>
 {
     first_fault(alloc, &s)?;
     s.in_range();
+    let index = Index::of(alloc, &s)?;
     let numbers = numbers_of(alloc, s.levels.items())?;
-    Ok(GoodScene { scene: s, numbers })
+    Ok(GoodScene {
+        scene: s,
+        index,
+        numbers,
+    })
 }
 
 impl GoodScene {

@@ -1,5 +1,5 @@
 //! What a checked scene says of one row, and its drawings by their numbers.
-ghost use Rattle.std.specs.Prelude.{◌≡◌, ◌<◌, [], Some, length, slice_get, slice_index_or, MatchOption};
+ghost use Rattle.std.specs.Prelude.{◌≡◌, ◌<◌, [], Some, length, slice_get, slice_index_or};
 ghost use Rattle.std.specs.Option.{option_map};
 ghost use Rattle.xs_scene.specs.Ranges.{IsOffset};
 ghost use Rattle.xs_meaning.specs.Bounds.{IsWithin};
@@ -11,14 +11,17 @@ ghost use Rattle.xs_meaning.specs.Palettes.{style_at as pixel_at};
 ghost use Rattle.xs_meaning.specs.Places.{peg_at, place_of};
 ghost use Rattle.xs_meaning.specs.Places.{own_offset as offset_at};
 ghost use Rattle.xs_meaning.specs.Points.{point};
-ghost use Rattle.xs_meaning.specs.Walk.{no_sheet, sheet_at, column_at};
+ghost use Rattle.xs_meaning.specs.Walk.{sheet_at, column_at};
 ghost use Rattle.xs_check.specs.Good.{IsGood, IsThere, HasPalette, files_of};
 ghost use Rattle.xs_check.specs.Readers.{IsSeen, IsSpot};
-ghost use Rattle.xs_sheet.specs.Taken.{newest};
 
 use crate::good::GoodScene;
+use xs_index::{key_in, offset_in, seen_in};
 use xs_pixel::{Pixel, Style};
-use xs_scene::{Colours, Kind, Level, Name, Seen, Sheet, Shown, StyleKey};
+use xs_scene::{Kind, Level, Name, Seen, Shown, StyleKey};
+
+/// How many pegs a chain of parents can have.
+const LONGEST_CHAIN: u32 = 64;
 
 impl GoodScene {
     /// What a column of a sheet shows at a row. A sheet or a column that the scene lacks shows nothing.
@@ -26,10 +29,7 @@ impl GoodScene {
         ensures value { result ≡ cell_at (column_at (sheet_at self.now.sheets sheet) column) row }
         ensures there { IsSeen self.now result }
     {
-        match self.find_sheet(sheet) {
-            Some(sheet) => xs_sheet::cell(sheet, column, row),
-            None => Seen::Empty,
-        }
+        seen_in(self.index.cells(sheet, column), row)
     }
 
     /// A peg's own offset at a row: (0, 0) for a peg that the scene lacks.
@@ -38,13 +38,7 @@ impl GoodScene {
         ensures across { IsOffset result.0 }
         ensures up { IsOffset result.1 }
     {
-        match self.find_sheet(sheet) {
-            Some(sheet) => match sheet.pegs.items().get(peg as usize) {
-                Some(peg) => xs_sheet::own_offset(peg, row),
-                None => (0, 0),
-            },
-            None => (0, 0),
-        }
+        offset_in(self.index.keys(sheet, peg), row)
     }
 
     /// The place of a peg at a row: the sum of its own offset and those of all its parents. Without a peg
@@ -53,10 +47,19 @@ impl GoodScene {
         ensures value { point result.0 result.1 ≡ place_of (sheet_at self.now.sheets sheet) peg row }
         ensures near { IsWithin 4194304 (point result.0 result.1) }
     {
-        match self.find_sheet(sheet) {
-            Some(sheet) => xs_sheet::place(sheet, peg, row),
-            None => (0, 0),
+        let mut next = peg;
+        let mut x = 0;
+        let mut y = 0;
+        for _taken in 0..LONGEST_CHAIN {
+            let Some(number) = next else {
+                return (x, y);
+            };
+            let (across, up) = self.own_offset(sheet, number, row);
+            x += across;
+            y += up;
+            next = self.parent(sheet, number);
         }
+        (x, y)
     }
 
     /// The pixel of a style of a palette at a row, where no filter drops it. Style 0 is clear, and so is
@@ -64,10 +67,13 @@ impl GoodScene {
     pub fn style_at(&self, palette: u32, row: u32, style: u32) -> Pixel
         ensures { result ≡ pixel_at (slice_index_or self.now.palettes palette no_colours) row none_dropped style }
     {
-        match self.scene().palettes.items().get(palette as usize) {
-            Some(colours) => pixel_of(colours, row, style),
-            None => Pixel::CLEAR,
+        if style == 0 {
+            return Pixel::CLEAR;
         }
+        let Some(written) = self.written(palette, style) else {
+            return Pixel::CLEAR;
+        };
+        keyed(self.key(palette, row, style), written).pixel()
     }
 
     /// How many drawings the scene has.
@@ -115,26 +121,29 @@ impl GoodScene {
         self.numbers.spot(scene.levels.items(), d)
     }
 
-    /// The sheet with a number, if the scene has it.
-    fn find_sheet(&self, sheet: u32) -> Option<&Sheet>
-        ensures value { MatchOption result (no_sheet ≡ sheet_at self.now.sheets sheet) (λ found. found.now ≡ sheet_at self.now.sheets sheet) }
-        ensures good { IsGood self.now }
+    /// The parent of a peg.
+    fn parent(&self, sheet: u32, peg: u32) -> Option<u32>
+        ensures { result ≡ (peg_at (sheet_at self.now.sheets sheet) peg).parent }
     {
-        self.scene().sheets.items().get(sheet as usize)
+        let sheet = self.scene().sheets.items().get(sheet as usize)?;
+        let peg = sheet.pegs.items().get(peg as usize)?;
+        peg.parent
     }
-}
 
-/// The pixel of a style of a palette at a row.
-fn pixel_of(colours: &Colours, row: u32, style: u32) -> Pixel
-    ensures { result ≡ pixel_at colours.now row none_dropped style }
-{
-    if style == 0 {
-        return Pixel::CLEAR;
+    /// A style of a palette as it is written, if the palette has it.
+    fn written(&self, palette: u32, style: u32) -> Option<Style>
+        ensures { result ≡ slice_get (slice_index_or self.now.palettes palette no_colours).styles style }
+    {
+        let colours = self.scene().palettes.items().get(palette as usize)?;
+        colours.styles.items().get(style as usize).copied()
     }
-    let Some(written) = colours.styles.items().get(style as usize) else {
-        return Pixel::CLEAR;
-    };
-    keyed(find_key(colours, row, style), *written).pixel()
+
+    /// The key that sets a style of a palette at a row.
+    fn key(&self, palette: u32, row: u32, style: u32) -> Option<StyleKey>
+        ensures { result ≡ key_at (slice_index_or self.now.palettes palette no_colours) row style }
+    {
+        key_in(self.index.style_keys(palette), style, row)
+    }
 }
 
 /// A written style, or what a key sets it to.
@@ -144,28 +153,5 @@ fn keyed(key: Option<StyleKey>, written: Style) -> Style
     match key {
         Some(key) => key.to,
         None => written,
-    }
-}
-
-/// The key that sets a style at a row.
-fn find_key(colours: &Colours, row: u32, style: u32) -> Option<StyleKey>
-    ensures { result ≡ key_at colours.now row style }
-{
-    let mut best = None;
-    for key in colours.keys.items() {
-        if key.style == style && key.row <= row {
-            best = Some(later(best, *key));
-        }
-    }
-    best
-}
-
-/// The one with the greater row of a key and the best of those before it.
-fn later(best: Option<StyleKey>, key: StyleKey) -> StyleKey
-    ensures { result ≡ newest (λ k. k.row) best key }
-{
-    match best {
-        Some(best) if key.row <= best.row => best,
-        _ => key,
     }
 }

@@ -1,14 +1,14 @@
 -- What a search in a list in order finds is what a definition chooses from the list as it stands
-use Rattle.std.proofs.Common.{◌≡◌, ◌≤◌, ◌<◌, ◌+◌, ◌-◌, ℕ, zero, Bool, true, false, ◌&&◌, eqb, leb, nat_le, Option, Some, None, List, All, AllPairs, Contains, IfSome, MatchOption, filter, length, get_or, pos, refl, sym, ap, ◌∙◌, subst, inl, inr, leb-true, true≢false, le_antisymm, arith}
+use Rattle.std.proofs.Common.{◌≡◌, ◌≤◌, ◌<◌, ◌-◌, ℕ, zero, Bool, true, ◌&&◌, eqb, leb, Option, Some, None, List, All, AllPairs, Contains, IfSome, MatchOption, filter, get_or, pos, refl, sym, ap, ◌∙◌, subst, inl, inr, leb-true, le_antisymm, arith}
 use Rattle.std.specs.List.Sorted.{IsPermutation}
-use Rattle.std.proofs.lemmas.Bool.{cases_lt, cases_Bool, le-leb, and_from, and_left, and_right, eq-eqb, eqb-true}
+use Rattle.std.proofs.lemmas.Bool.{cases_lt, cases_Bool, le-leb, and_from, eq-eqb, eqb-true}
 use Rattle.std.proofs.lemmas.List.{get_or_default}
 use Rattle.std.proofs.lemmas.List.Elements.{All-contains, All-filter, All-contains_itself, filter_passes}
 use Rattle.std.proofs.lemmas.List.Sorted.{All-permutation, Contains-permutation, IsPermutation-sym}
 use Rattle.xs_scene.specs.declared.seen.Seen.TheVariants.{Empty}
 use Rattle.xs_scene.specs.Records.{ColumnRecord, ColoursRecord, ExposureRecord, PegKeyRecord, StyleKeyRecord}
 use Rattle.xs_meaning.specs.Cells.{cell_at, covers, shown_after}
-use Rattle.xs_meaning.specs.Chosen.{IsOnlyAt, IsKeyInForce, IsKeyAfter, HasDistinctRows}
+use Rattle.xs_meaning.specs.Chosen.{IsKeyInForce, IsKeyAfter, HasDistinctRows}
 use Rattle.xs_meaning.specs.Keys.{latest}
 use Rattle.xs_meaning.specs.Palettes.{key_at}
 use Rattle.xs_meaning.specs.Places.{own_offset, offset_by, offset_from, key_in_force, key_after}

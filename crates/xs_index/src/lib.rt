@@ -10,3 +10,6 @@ pub mod timed;
 pub use index::Index;
 pub use search::{key_in, offset_in, seen_in};
 pub use timed::Timed;
+
+#[cfg(test)]
+mod tests;

@@ -8,6 +8,7 @@ pub invariant_of-result : goal.invariant_of-result
 invariant_of-result c =
     record {
       good = good_scene c.args.s c.in_ok-first_fault.ensures c.in_range.ensures;
+      index_of = c.in_ok-index.ensures;
       numbering =
           subst
           (λ (levels : List LevelRecord). IsNumbering levels (length levels) c.in_ok-numbers.numbers.firsts.items c.in_ok-numbers.numbers.owners.items)

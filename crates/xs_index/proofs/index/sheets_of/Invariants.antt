@@ -1,4 +1,4 @@
-use Rattle.std.proofs.Common.{◌≡◌, ◌<◌, ℕ, [], length, slice_index_or}
+use Rattle.std.proofs.Common.{◌≡◌, ◌<◌, ℕ, length, slice_index_or}
 use Rattle.xs_meaning.specs.Walk.{no_sheet}
 use Rattle.xs_index.specs.Index.{IsSheetIndex, no_lists}
 use Rattle.xs_index.proofs.index.sheets_of.Given as goal

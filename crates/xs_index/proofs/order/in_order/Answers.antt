@@ -1,7 +1,7 @@
-use Rattle.std.proofs.Common.{◌≡◌, List, rules, sym, subst}
+use Rattle.std.proofs.Common.{rules, sym, subst}
 use Rattle.std.specs.List.Sorted.{IsPermutation}
 use Rattle.std.proofs.lemmas.List.Sorted.{answers_always, ties_still_rise, IsNonDecreasingBy-from_sort_by_key, IsPermutation-trans}
-use Rattle.xs_index.specs.Order.{IsInOrder, IsOrderOf}
+use Rattle.xs_index.specs.Order.{IsOrderOf}
 use Rattle.xs_index.proofs.Orders.{in_order}
 use Rattle.xs_index.proofs.order.in_order.Goals as goal
 

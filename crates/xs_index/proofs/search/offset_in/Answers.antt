@@ -1,4 +1,3 @@
-use Rattle.std.proofs.Common.{pos}
 use Rattle.xs_meaning.specs.Points.{point}
 use Rattle.xs_index.proofs.Chosen.{offset_none, offset_some}
 use Rattle.xs_index.proofs.search.offset_in.Goals as goal

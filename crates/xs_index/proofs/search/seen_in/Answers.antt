@@ -1,4 +1,4 @@
-use Rattle.std.proofs.Common.{◌≡◌, ◌≤◌, ◌<◌, ◌∙◌, sym, ap, subst, arith}
+use Rattle.std.proofs.Common.{◌≡◌, ◌≤◌, ◌<◌, ◌∙◌, ap, arith}
 use Rattle.xs_scene.specs.Records.{ExposureRecord}
 use Rattle.xs_index.proofs.Chosen.{cell_found, cell_gap, cell_none}
 use Rattle.xs_index.proofs.search.seen_in.Goals as goal

@@ -9,6 +9,6 @@ spot-requires-clause-below c =
     omega (
       arith,
       c.requires,
-      kept_drawings c.self.inside.scene c.self.inside.numbers.firsts.items c.self.inside.numbers.owners.items c.self.invariant,
+      kept_drawings c.self.inside.scene c.self.inside.index c.self.inside.numbers.firsts.items c.self.inside.numbers.owners.items c.self.invariant,
       ap (λ (s : SceneRecord). length (files_of s.levels)) c.self.view_is,
     )
