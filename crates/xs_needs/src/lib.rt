@@ -12,3 +12,6 @@ pub mod rule;
 pub mod spot;
 
 pub use needs::row_drawings;
+
+#[cfg(test)]
+mod tests;
