@@ -10,7 +10,8 @@
 //! - `show FILE`: the canonical text of the scene
 //! - `level FILE KIND`: the fields of the drawing, or the code of its first fault
 //! - `cuts FILE KIND`: the codes of the file cut to each shorter length
-//! - `files NAME=FILE ..`: the library has these files from here on
+//! - `files NAME=FILE ..`: the library has these files from here on, and no others; a name alone has the
+//!   file of that name, and `NAME=+N` so many zeros
 //! - `run WORDS`: what the words do: the status and its text, the names that were asked for, the files on
 //!   the shelf and the notes
 //! - `fail get N WORDS`, `fail put N WORDS`, `fail note N WORDS`: the same, where that call fails

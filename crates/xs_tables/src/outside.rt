@@ -45,6 +45,14 @@ impl Failing {
     }
 }
 
+/// The bytes that a word names: those of a file, or, behind a `+`, so many zeros.
+fn bytes_of<R: Files + AllocGlobal>(rt: &R, word: &str) -> io::Result<Vec<u8>> {
+    let Some(Ok(count)) = word.strip_prefix('+').map(|count| count.parse::<u32>()) else {
+        return fs::read(rt, word);
+    };
+    Ok(vec![in rt.alloc(); 0u8; count as usize]?)
+}
+
 impl Outside {
     pub fn empty(alloc: Global) -> Outside {
         Outside {
@@ -52,12 +60,12 @@ impl Outside {
         }
     }
 
-    /// Holds these files, and no others: each word is a name, or a name, `=` and the file that has its bytes.
+    /// Holds these files, and no others: each word is a name, or a name, `=` and what its bytes are.
     pub fn hold<R: Files + AllocGlobal>(&mut self, rt: &R, words: &str) -> io::Result<()> {
         self.files.clear();
         for word in words.split_whitespace() {
             let (name, file) = word.split_once('=').unwrap_or((word, word));
-            let bytes = fs::read(rt, file)?;
+            let bytes = bytes_of(rt, file)?;
             self.files
                 .push((String::from_str(rt.alloc(), name)?, bytes))?;
         }
