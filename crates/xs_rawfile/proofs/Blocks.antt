@@ -1,11 +1,11 @@
 -- Going through bytes by blocks of four pixels.
-use Rattle.std.proofs.Common.{◌≡◌, ℕ, ◌+◌, ◌*◌, zero, suc, ◌&&◌, true, false, cond, ltb, nat_le, List, [], ◌∷◌, take, drop, refl, arith}
+use Rattle.std.proofs.Common.{◌≡◌, ℕ, ◌+◌, ◌*◌, zero, suc, true, false, cond, ltb, nat_le, List, [], ◌∷◌, take, drop, refl, arith}
 use Rattle.std.specs.List.{position_from}
 use Rattle.std.specs.Simd.Lanes.{Each1, zip2, chunk}
 use lib.Lanes.{mask_l}
 use Rattle.std.proofs.lemmas.Bool.Decides.{nat_tests}
 use Rattle.std.proofs.lemmas.List.{drop-drop}
-use Rattle.xs_pixel.specs.Channels.{Channels, channels}
+use Rattle.xs_pixel.specs.Channels.{Channels}
 use Rattle.xs_pixel.specs.Rows.{pixels}
 use Rattle.xs_pixel.proofs.Rows.{pixels-drop, pixels-chunk}
 use Rattle.xs_rawfile.specs.Pixels.{exceeds, mattes_of}

@@ -1,5 +1,5 @@
 -- What a file without a fault holds.
-use Rattle.std.proofs.Common.{◌≡◌, ℕ, ◌+◌, ◌-◌, ◌*◌, ◌^◌, ◌<◌, ◌≤◌, ℤ, pos, neg_ℤ, ◌≤ℤ◌, int_le, Bool, true, false, not, ◌&&◌, ◌||◌, ◌==◌, nat_lt, nat_le, Option, Some, None, List, [], ◌∷◌, length, drop, slice_index, w32, refl, arith}
+use Rattle.std.proofs.Common.{◌≡◌, ℕ, ◌+◌, ◌*◌, ◌^◌, ◌<◌, ◌≤◌, ℤ, pos, neg_ℤ, int_le, Bool, true, false, nat_lt, nat_le, Option, Some, None, List, ◌∷◌, length, drop, w32, refl, arith}
 use Rattle.std.specs.Int.{cast_signed}
 use Rattle.std.specs.Option.{option_map}
 use Rattle.std.specs.Simd.Lanes.{Each1}
@@ -7,15 +7,12 @@ use Rattle.std.proofs.lemmas.Bool.Decides.{nat_tests}
 use Rattle.std.proofs.lemmas.Int.{ints}
 use Rattle.std.proofs.lemmas.List.{length-drop}
 use Rattle.std.proofs.lemmas.Nat.{mul-le}
-use Rattle.xs_pixel.specs.Channels.{IsPixel}
-use Rattle.xs_pixel.specs.Rows.{pixels}
 use Rattle.xs_rawfile.specs.declared.drawing.RawKind.{RawKind}
 use Rattle.xs_rawfile.specs.declared.drawing.RawKind.TheVariants.{Colour, Cm32}
 use Rattle.xs_rawfile.specs.declared.fault.LevelCode.{LevelCode}
-use Rattle.xs_rawfile.specs.declared.fault.LevelCode.TheVariants.{NotPremultiplied}
-use Rattle.xs_rawfile.specs.Raw.{Raw, IsRaw, IsSide, IsPlace, Fills}
+use Rattle.xs_rawfile.specs.Raw.{IsRaw, IsSide, IsPlace, Fills}
 use Rattle.xs_rawfile.specs.Tests.{is_side, is_place}
-use Rattle.xs_rawfile.specs.Pixels.{unmultiplied_fault, first_unmultiplied_of}
+use Rattle.xs_rawfile.specs.Pixels.{unmultiplied_fault}
 use Rattle.xs_rawfile.specs.Level.{raw_of, number_at, first_of, first_fault, lacks_magic, has_unknown_kind, has_other_kind, has_wrong_side, has_wrong_place, has_wrong_length}
 use Rattle.xs_rawfile.proofs.Truths.{not_false, and_true, and_false, or_false}
 use Rattle.xs_rawfile.proofs.Scanning.{fills_from_none}

@@ -1,5 +1,5 @@
 -- The file of each drawing is read back, and no other bytes are.
-use Rattle.std.proofs.Common.{◌≡◌, ℕ, ◌+◌, ◌-◌, ◌*◌, ◌/◌, ◌%◌, ◌^◌, ◌<◌, ◌≤◌, ℤ, pos, negsuc, neg_ℤ, ◌≤ℤ◌, Bool, true, false, not, ◌&&◌, nat_lt, nat_le, ◌==◌, int_le, Option, None, List, [], ◌∷◌, ◌++◌, length, drop, slice_index, w32, of_z, to_z, FitsSigned, refl, ap, sym, ◌∙◌, subst, arith}
+use Rattle.std.proofs.Common.{◌≡◌, ℕ, ◌+◌, ◌*◌, ◌/◌, ◌%◌, ◌<◌, ◌≤◌, ℤ, pos, negsuc, neg_ℤ, true, false, not, ◌&&◌, nat_lt, nat_le, ◌==◌, int_le, None, List, [], ◌∷◌, ◌++◌, length, slice_index, w32, of_z, to_z, FitsSigned, refl, ap, sym, ◌∙◌, arith}
 use Rattle.std.specs.Simd.Lanes.{Each1}
 use Rattle.std.proofs.lemmas.Bool.Decides.{nat_tests}
 use Rattle.std.proofs.lemmas.Int.{ints, to_z-of_z, of_z-to_z}
@@ -8,7 +8,7 @@ use Rattle.xs_rawfile.specs.declared.drawing.RawKind.TheVariants.{Colour, Cm32}
 use Rattle.xs_rawfile.specs.Raw.{Raw, raw, IsRaw, IsPlace, IsSide, Fills}
 use Rattle.xs_rawfile.specs.Tests.{is_side, is_place, kind_byte}
 use Rattle.xs_rawfile.specs.Pixels.{unmultiplied_fault}
-use Rattle.xs_rawfile.specs.Level.{magic, four_bytes, level_bytes, raw_of, number_at, first_fault, lacks_magic, has_unknown_kind, has_other_kind, has_wrong_side, has_wrong_place, has_wrong_length}
+use Rattle.xs_rawfile.specs.Level.{magic, four_bytes, level_bytes, raw_of, first_fault, lacks_magic, has_unknown_kind, has_other_kind, has_wrong_side, has_wrong_place, has_wrong_length}
 use Rattle.xs_rawfile.proofs.Faults.{passes, long_enough}
 use Rattle.xs_rawfile.proofs.Scanning.{none_from_fills}
 use Rattle.xs_rawfile.proofs.Truths.{not_false, and_true, and_false}

@@ -1,4 +1,4 @@
-use Rattle.std.proofs.Common.{arith, sym, ◌∙◌, refl}
+use Rattle.std.proofs.Common.{sym, ◌∙◌}
 use Rattle.xs_rawfile.specs.Level.{first_fault}
 use Rattle.xs_rawfile.proofs.Faults.{long_enough, pixels_few}
 use Rattle.xs_rawfile.proofs.level.fault_of.Goals as goal

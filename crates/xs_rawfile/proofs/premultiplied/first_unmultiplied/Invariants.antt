@@ -1,4 +1,4 @@
-use Rattle.std.proofs.Common.{◌≡◌, ℕ, ◌-◌, ◌*◌, ◌≤◌, length, drop}
+use Rattle.std.proofs.Common.{◌≡◌, ◌-◌, ◌*◌, ◌≤◌, length, drop}
 use Rattle.std.specs.List.{position_from}
 use Rattle.xs_pixel.specs.Rows.{pixels}
 use Rattle.xs_rawfile.specs.Pixels.{exceeds}

@@ -1,4 +1,4 @@
-use Rattle.std.proofs.Common.{◌*◌, ◌∙◌, refl, arith}
+use Rattle.std.proofs.Common.{◌∙◌, refl, arith}
 use Rattle.xs_rawfile.proofs.Blocks.{search_block}
 use Rattle.xs_rawfile.proofs.premultiplied.passed_by_blocks.Goals as goal
 

@@ -1,4 +1,4 @@
-use Rattle.std.proofs.Common.{◌≡◌, ◌*◌, [], ◌∷◌, get_or, refl, arith}
+use Rattle.std.proofs.Common.{◌≡◌, ◌*◌, [], ◌∷◌, get_or, refl}
 use Rattle.std.specs.Simd.Lanes.{chunk}
 use Rattle.xs_pixel.specs.Channels.{IsPixel, clear}
 use Rattle.xs_pixel.specs.Rows.{pixels}

@@ -1,4 +1,4 @@
-use Rattle.std.proofs.Common.{◌≡◌, ◌∙◌, w32, get_or, refl, sym, ap}
+use Rattle.std.proofs.Common.{◌∙◌, w32, get_or, refl, sym, ap}
 use Rattle.std.proofs.lemmas.Int.{to_z-of_z}
 use Rattle.xs_pixel.specs.Channels.{clear}
 use Rattle.xs_rawfile.specs.Held.{picture_of}

@@ -1,5 +1,4 @@
-use Rattle.std.proofs.Common.{refl, rules, arith}
-use Rattle.std.proofs.lemmas.Grind.{common_steps}
+use Rattle.std.proofs.Common.{refl, rules}
 use Rattle.xs_rawfile.proofs.drawing.Drawing.new.Goals as goal
 
 pub returns-then-fills-clause-valid : goal.returns-then-fills-clause-valid

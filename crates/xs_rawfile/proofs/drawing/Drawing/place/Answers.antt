@@ -1,6 +1,6 @@
-use Rattle.std.proofs.Common.{◌≡◌, ℕ, ◌+◌, ◌*◌, true, w32, sym, ◌∙◌, arith, refl}
+use Rattle.std.proofs.Common.{w32, sym, ◌∙◌, arith}
 use Rattle.std.proofs.lemmas.Int.{ints, to_z-of_z}
-use Rattle.xs_pixel.specs.Picture.{is_in_box, place_in_box}
+use Rattle.xs_pixel.specs.Picture.{place_in_box}
 use Rattle.xs_rect.proofs.Areas.{unwrapped}
 use Rattle.xs_rawfile.proofs.Boxes.{room_in_box}
 use Rattle.xs_rawfile.proofs.drawing.Drawing.place.Goals as goal

@@ -1,4 +1,4 @@
-use Rattle.std.proofs.Common.{◌≡◌, w32}
+use Rattle.std.proofs.Common.{w32}
 use Rattle.std.proofs.lemmas.Int.{to_z-of_z}
 use Rattle.xs_rawfile.proofs.Holding.{names_some, held_there}
 use Rattle.xs_rawfile.proofs.drawings.Drawings.pixel.Goals as goal
