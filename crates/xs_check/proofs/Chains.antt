@@ -6,7 +6,7 @@ use Rattle.std.proofs.lemmas.Bool.{false≢true, cases_lt}
 use Rattle.std.proofs.lemmas.Bool.Decides.{nat_tests}
 use Rattle.std.proofs.lemmas.List.Folds.{Any-from_list_any, list_any-from_Any}
 use Rattle.std.specs.List.{list_any}
-use Rattle.xs_check.specs.Ways.{Links, named_by, Leads, LiesOnCycle, HasChain, has_chain, TellChains, IsFirstWithout}
+use Rattle.xs_check.specs.Ways.{Links, named_by, Leads, HasChain, has_chain, TellChains, IsFirstWithout}
 
 -- ---- chains and their test
 
@@ -41,29 +41,11 @@ chain_missing links steps a none =
     bool_cases (has_chain links steps a) (has_chain links steps a ≡ false)
     (λ h. absurd (none (chain_found links steps a h))) (λ h. h)
 
--- ---- cycles
-
 -- a way with one step more at its end
 pub leads_on : (links : Links) (steps a b c : ℕ) → Leads links steps a b → Contains (named_by links b) c → Leads links (suc steps) a c
 unfolding Leads
 leads_on links zero a b c is named = (c, subst (λ (x : ℕ). Contains (named_by links x) c) (sym is) named, refl)
 leads_on links (suc steps) a b c (d, first, way) named = (d, first, leads_on links steps d b c way named)
-
-cycle_step : (links : Links) (steps a n : ℕ) → ((c : ℕ) → LiesOnCycle links c → HasChain links steps c)
-    → Leads links (suc n) a a → HasChain links (suc steps) a
-unfolding Leads
-cycle_step links steps a n rest (c, named, way) =
-    let chain = rest c (record { steps = n; way = leads_on links n c a c way named }) in
-    record { end = chain.end; way = (c, named, chain.way) }
-
--- on a cycle a chain goes on for ever
-pub cycle_chains : (links : Links) (steps a : ℕ) → LiesOnCycle links a → HasChain links steps a
-unfolding Leads
-cycle_chains links zero a cycle = record { end = a; way = refl }
-cycle_chains links (suc steps) a cycle = cycle_step links steps a cycle.steps (cycle_chains links steps) cycle.way
-
-pub no_chain_no_cycle : (links : Links) (steps a : ℕ) → has_chain links steps a ≡ false → LiesOnCycle links a → ⊥
-no_chain_no_cycle links steps a told cycle = no_chain links steps a told (cycle_chains links steps a cycle)
 
 -- ---- marks
 

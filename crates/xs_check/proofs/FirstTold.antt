@@ -1,4 +1,4 @@
-use Rattle.std.proofs.Common.{◌≡◌, ◌<◌, ℕ, Option, None, Result, List, length, map, subst}
+use Rattle.std.proofs.Common.{◌≡◌, ℕ, Option, Result, List, length, map, subst}
 use Rattle.std.proofs.lemmas.List.{length-map}
 use Rattle.xs_json.specs.declared.code.SceneCode.{SceneCode}
 use Rattle.xs_json.specs.declared.code.SceneCode.TheVariants as code
@@ -6,13 +6,7 @@ use Rattle.xs_json.specs.declared.fault.FieldFault.{FieldFault}
 use Rattle.xs_check.specs.Finding.{Finds, TellsFirst}
 use Rattle.xs_check.specs.Passes.{NoCycles, NoLongChains}
 use Rattle.xs_check.specs.Ways.{Links, LiesOnCycle, HasChain, IsFirstWithout}
-use Rattle.xs_check.proofs.Chains.{cycle_chains}
 use Rattle.xs_check.proofs.Findings.{first_told}
-
--- where no chain has so many steps nothing lies on a cycle
-pub no_long_no_cycle : (links : Links) (steps : ℕ) → IsFirstWithout (λ a. HasChain links steps a → ⊥) (length links) None
-    → IsFirstWithout (λ a. LiesOnCycle links a → ⊥) (length links) None
-no_long_no_cycle links steps none = λ i below cycle. none i below (cycle_chains links steps i cycle)
 
 module _ {A : Type 0} (named : A → List ℕ) (at : List ℕ) (xs : List A) (links : Links) (first : Option ℕ) (r : Result (Unit {0}) FieldFault) (is : links ≡ map named xs) where
   pub cycles_told : (fault : SceneCode) → IsFirstWithout (λ a. LiesOnCycle links a → ⊥) (length links) first → TellsFirst fault at first r

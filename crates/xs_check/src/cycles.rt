@@ -1,47 +1,27 @@
 //! Pegs, nodes and sheets that lead back to themselves, and chains of them that are too long.
-ghost use Rattle.std.specs.Prelude.{◌≡◌, ◌<◌, IfOk, length, map};
+ghost use Rattle.std.specs.Prelude.{◌≡◌, ◌<◌, map};
 ghost use Rattle.xs_check.specs.Finding.{Finds};
 ghost use Rattle.xs_check.specs.Passes.{sheets_at, PegCycles, NodeCycles, SheetCycles, LongChains, NoCycles, NoLongChains};
-ghost use Rattle.xs_check.specs.Ways.{LiesOnCycle, IsFirstWithout};
 
 use crate::finding::{Rule, each, tell_first};
 use crate::labels::first_on_cycle;
 use crate::links::{Naming, links_of};
 use crate::ways::first_long;
-use std::alloc::{AllocError, Global};
+use std::alloc::Global;
 use xs_json::{Field, FieldFault, Path, Place, SceneCode};
-use xs_pixel::List;
 use xs_scene::{Scene, Sheet};
 
-/// The first thing on a cycle. Where no chain has `steps` more things after it, nothing is on a cycle.
-fn first_cycle(
-    alloc: Global,
-    links: &List<List<u32>>,
-    steps: u32,
-) -> Result<Option<usize>, AllocError>
-    requires { 0 < steps }
-    ensures { IfOk result (IsFirstWithout (λ a. LiesOnCycle links.now a → ⊥) (length links.now)) }
-{
-    match first_long(alloc, links, steps)? {
-        Some(_) => first_on_cycle(alloc, links),
-        None => Ok(None),
-    }
-}
-
-/// The fault at the first of some things that lies on a cycle. No chain of things that do not has `steps`
-/// more after its first, or it is found by a longer search.
+/// The fault at the first of some things that lies on a cycle.
 fn no_cycles<T: Naming>(
     alloc: Global,
     things: &[T],
-    steps: u32,
     code: SceneCode,
     at: &Path,
 ) -> Result<(), FieldFault>
-    requires { 0 < steps }
     ensures { Finds result (NoCycles code (map T.named things.now) at.now things.now) }
 {
     let links = links_of(alloc, things)?;
-    let first = first_cycle(alloc, &links, steps)?;
+    let first = first_on_cycle(alloc, &links)?;
     tell_first(alloc, first, code, at)
 }
 
@@ -72,7 +52,7 @@ impl Rule<Sheet> for PegCycle {
     fn look(&self, alloc: Global, item: &Sheet, at: &Place) -> Result<(), FieldFault> {
         let path = at.path(alloc)?;
         let pegs = Place::key(&path, Field::Pegs).path(alloc)?;
-        no_cycles(alloc, item.pegs.items(), 64, SceneCode::PegCycle, &pegs)
+        no_cycles(alloc, item.pegs.items(), SceneCode::PegCycle, &pegs)
     }
 }
 
@@ -88,7 +68,7 @@ impl Rule<Sheet> for NodeCycle {
     fn look(&self, alloc: Global, item: &Sheet, at: &Place) -> Result<(), FieldFault> {
         let path = at.path(alloc)?;
         let nodes = Place::key(&path, Field::Nodes).path(alloc)?;
-        no_cycles(alloc, item.nodes.items(), 256, SceneCode::NodeCycle, &nodes)
+        no_cycles(alloc, item.nodes.items(), SceneCode::NodeCycle, &nodes)
     }
 }
 
@@ -129,13 +109,7 @@ pub fn sheet_cycles(alloc: Global, scene: &Scene, sheets: &Path) -> Result<(), F
     requires { sheets.now ≡ sheets_at }
     ensures { Finds result (SheetCycles scene.now) }
 {
-    no_cycles(
-        alloc,
-        scene.sheets.items(),
-        16,
-        SceneCode::SheetCycle,
-        sheets,
-    )
+    no_cycles(alloc, scene.sheets.items(), SceneCode::SheetCycle, sheets)
 }
 
 /// The first peg at which a chain of more than 64 pegs begins; without one, the first sheet at which a

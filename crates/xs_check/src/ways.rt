@@ -1,9 +1,9 @@
-//! Chains and cycles of things that name one another, as pegs their parents. How long chains are is told
+//! Chains of things that name one another, as pegs their parents. How long chains are is told
 //! by as many rounds over all things: after each, a mark says whether a chain of one step more begins
 //! there. The rounds end early where no chain is left.
 ghost use Rattle.std.specs.Prelude.{◌≡◌, ◌<◌, ◌↔◌, IfOk, IsTrue, All, ℕ, false, length, map, slice_index_or};
 ghost use Rattle.std.specs.List.{list_any};
-ghost use Rattle.xs_check.specs.Ways.{TellChains, HasChain, LiesOnCycle, IsFirstWithout};
+ghost use Rattle.xs_check.specs.Ways.{TellChains, HasChain, IsFirstWithout};
 
 use std::alloc::{AllocError, Global};
 use xs_pixel::List;
