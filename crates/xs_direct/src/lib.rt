@@ -11,3 +11,6 @@ mod sums;
 mod values;
 
 pub use frame::{frame_direct, pixel_at};
+
+#[cfg(test)]
+mod tests;

@@ -100,7 +100,7 @@ fn stacked_columns<'a, K: Film>(
         if column.off {
             continue;
         }
-        let upper = value_at(
+        let above = value_at(
             s,
             drawings,
             depth,
@@ -111,7 +111,7 @@ fn stacked_columns<'a, K: Film>(
             f,
             p,
         );
-        pixel = over(upper, pixel);
+        pixel = over(above, pixel);
     }
     pixel
 }

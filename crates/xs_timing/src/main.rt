@@ -3,8 +3,10 @@
 #![tactic(auto)]
 
 mod checking;
+mod frame;
 mod kernels;
 mod scene_text;
+mod sharing;
 mod tiles;
 
 use std::rt::Clock;
@@ -31,8 +33,10 @@ fn main(rt: HostRuntime) -> io::Result<()> {
         None => println!(rt; "xs_timing: name a part to time"),
         Some(part) => match part.as_str() {
             "kernels" => kernels::time(&rt, rt.alloc()),
+            "frame" => frame::time(&rt, rt.alloc()),
             "kernel-bytes" => kernels::write_bytes(&rt, rt.alloc()),
             "check" => checking::time(&rt, rt.alloc()),
+            "needs" => sharing::time_needs(&rt, rt.alloc()),
             "decode" | "encode" => time_text(&rt, part.as_str(), words.next()),
             other => println!(rt; "xs_timing: there is no part {other}"),
         },

@@ -66,8 +66,8 @@ stacked-returns g t c =
 pub stacked_columns-loop-c-preserved : goal.stacked_columns-loop-c-preserved
 stacked_columns-loop-c-preserved g t c =
     let val : Ref → Channels = λ t. value_within c.args.s.now (pictures_in c.args.drawings.now) c.args.depth c.args.k c.args.below t c.args.row (dropped_of c.args.f.now) c.args.p in
-    columns_more val c.args.columns.now c.loop-c.c c.index-columns-c.result c.loop-c.pixel c.value_at-upper.result c.over-pixel.result (omega arith) c.index-columns-c.is
-    (ap (λ (column : ColumnRecord). column.off) (sym c.column.view_is) ∙ c.if-column.false) c.loop-c.invariant c.value_at-upper.ensures c.over-pixel.ensures
+    columns_more val c.args.columns.now c.loop-c.c c.index-columns-c.result c.loop-c.pixel c.value_at-above.result c.over-pixel.result (omega arith) c.index-columns-c.is
+    (ap (λ (column : ColumnRecord). column.off) (sym c.column.view_is) ∙ c.if-column.false) c.loop-c.invariant c.value_at-above.ensures c.over-pixel.ensures
 
 pub stacked_columns-loop-c-preserved-then-column : goal.stacked_columns-loop-c-preserved-then-column
 stacked_columns-loop-c-preserved-then-column g t c =
