@@ -84,6 +84,13 @@ impl GoodScene {
         &self.scene
     }
 
+    /// The scene again, unchecked. Takes no memory.
+    pub fn into_scene(self) -> Scene
+        ensures { result ≡ self }
+    {
+        self.scene
+    }
+
     /// The sheet with a number.
     pub fn sheet(&self, k: u32) -> &Sheet
         requires { k < length self.now.sheets }
