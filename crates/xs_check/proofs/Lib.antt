@@ -5,3 +5,6 @@ pub mod Endings
 pub mod Goods
 pub mod Repeats
 pub mod FirstTold
+pub mod Numbering
+pub mod Readings
+pub mod StyleKeys

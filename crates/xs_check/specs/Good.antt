@@ -1,4 +1,5 @@
 -- What checking establishes of a scene.
+pub use Rattle.xs_index.specs.Apart.{AreApart, DifferInRow, DifferInRowOrStyle}
 use Rattle.std.specs.Prelude.{◌≡◌, ◌≢◌, ◌≤◌, ◌<◌, ℕ, List, [], Option, Some, IfSome, All, AllPairs, length, flat_map, slice_index_or}
 use Rattle.xs_scene.specs.declared.level.Kind.{Kind}
 use Rattle.xs_scene.specs.declared.level.Kind.TheVariants.{Colour, Cm32}
@@ -37,17 +38,6 @@ Targets k (ToColumn c) = c < length k.columns
 Targets k (ToNode n) = n < length k.nodes
 
 -- ---- what may not stand twice
-
--- no row lies in both exposures
-abbrev pub AreApart : ExposureRecord → ExposureRecord → Type 0
-AreApart a b = (row : ℕ) → a.from ≤ row → row ≤ a.to → b.from ≤ row → row ≤ b.to → ⊥
-
-abbrev pub DifferInRow : PegKeyRecord → PegKeyRecord → Type 0
-DifferInRow a b = a.row ≢ b.row
-
--- two palette keys of one style differ in row
-abbrev pub DifferInRowOrStyle : StyleKeyRecord → StyleKeyRecord → Type 0
-DifferInRowOrStyle a b = a.style ≡ b.style → a.row ≢ b.row
 
 -- the file names of a scene's drawings, by the drawings' numbers
 abbrev pub files_of : List LevelRecord → List (List ℕ)

@@ -4,3 +4,4 @@ pub mod Search
 pub mod Links
 pub mod Good
 pub mod Passes
+pub mod Readers

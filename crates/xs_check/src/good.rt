@@ -4,11 +4,13 @@ ghost use Rattle.xs_check.specs.Finding.{Finds};
 ghost use Rattle.xs_check.specs.Passes.{Checking};
 
 use crate::cycles::{long_chains, node_cycles, peg_cycles, sheet_cycles};
+use crate::numbers::{Numbers, numbers_of};
 use crate::overlaps::overlaps;
 use crate::references::references;
 use crate::sizes::sizes;
 use std::alloc::Global;
 use std::marker::Model;
+use xs_index::Index;
 use xs_json::{Field, FieldFault, Path, Place};
 use xs_scene::{Scene, Sheet};
 
@@ -16,7 +18,9 @@ use xs_scene::{Scene, Sheet};
 /// itself, and every size is within its limit.
 #[derive(Debug, Drop)]
 pub struct GoodScene {
-    scene: Scene,
+    pub(crate) scene: Scene,
+    pub(crate) index: Index,
+    pub(crate) numbers: Numbers,
 }
 
 impl Model for GoodScene {
@@ -24,11 +28,11 @@ impl Model for GoodScene {
 
     ghost Value = { SceneRecord };
 
-    ghost use Rattle.xs_check.specs.Good.{IsGood};
+    ghost use Rattle.xs_check.specs.Readers.{IsKept};
 
     ghost view = { λ g. g.scene };
 
-    ghost invariant = { λ g. IsGood g.scene };
+    ghost invariant = { λ g. IsKept g.scene g.index g.numbers.firsts.items g.numbers.owners.items };
 }
 
 /// The first fault, in the order of the passes.
@@ -56,11 +60,19 @@ pub fn check(alloc: Global, s: Scene) -> Result<GoodScene, FieldFault>
 {
     first_fault(alloc, &s)?;
     s.in_range();
-    Ok(GoodScene { scene: s })
+    let index = Index::of(alloc, &s)?;
+    let numbers = numbers_of(alloc, s.levels.items())?;
+    Ok(GoodScene {
+        scene: s,
+        index,
+        numbers,
+    })
 }
 
 impl GoodScene {
-    ghost use Rattle.std.specs.Prelude.{◌≡◌, ◌<◌, length};
+    ghost use Rattle.std.specs.Prelude.{◌≡◌, ◌<◌, ℕ, length};
+    ghost use Rattle.xs_scene.specs.declared.node.Ref.TheVariants.{Node as ToNode};
+    ghost use Rattle.xs_meaning.specs.Ends.{NodesEnd};
     ghost use Rattle.xs_meaning.specs.Walk.{sheet_at};
     ghost use Rattle.xs_check.specs.Good.{IsGood, IsGoodSheet};
 
@@ -72,11 +84,20 @@ impl GoodScene {
         &self.scene
     }
 
+    /// The scene again, unchecked. Takes no memory.
+    pub fn into_scene(self) -> Scene
+        ensures { result ≡ self }
+    {
+        self.scene
+    }
+
     /// The sheet with a number.
     pub fn sheet(&self, k: u32) -> &Sheet
         requires { k < length self.now.sheets }
         ensures value { result.now ≡ sheet_at self.now.sheets k }
         ensures good { IsGoodSheet self.now result.now }
+        ensures ends { (n : ℕ) → n < length result.now.nodes
+            → NodesEnd result.now (length result.now.nodes) (ToNode n) }
     {
         let scene = &self.scene;
         &scene.sheets.items()[k as usize]

@@ -35,14 +35,14 @@ word_of_chunk i k (a ∷ []) at room = absurd (omega arith)
 word_of_chunk i k (a ∷ b ∷ []) at room = absurd (omega arith)
 word_of_chunk i k (a ∷ b ∷ c ∷ []) at room = absurd (omega arith)
 
--- the colour of a word is that word's item among the colours
-pub coloured_word : (f : ℕ → Channels) (k : ℕ) (xs : List ℕ) → 4 * k + 4 ≤ length xs → get_or (map f (words xs)) k clear ≡ f (get_or (words xs) k 0)
-coloured_word f zero (a ∷ b ∷ c ∷ d ∷ xs) room = refl
-coloured_word f (suc k) (a ∷ b ∷ c ∷ d ∷ xs) room = coloured_word f k xs (omega arith)
-coloured_word f k [] room = absurd (omega arith)
-coloured_word f k (a ∷ []) room = absurd (omega arith)
-coloured_word f k (a ∷ b ∷ []) room = absurd (omega arith)
-coloured_word f k (a ∷ b ∷ c ∷ []) room = absurd (omega arith)
+-- what is made of a word is that word's item among what is made of all
+pub mapped_word : {B : Type 0} (f : ℕ → B) (outside : B) (k : ℕ) (xs : List ℕ) → 4 * k + 4 ≤ length xs → get_or (map f (words xs)) k outside ≡ f (get_or (words xs) k 0)
+mapped_word f outside zero (a ∷ b ∷ c ∷ d ∷ xs) room = refl
+mapped_word f outside (suc k) (a ∷ b ∷ c ∷ d ∷ xs) room = mapped_word f outside k xs (omega arith)
+mapped_word f outside k [] room = absurd (omega arith)
+mapped_word f outside k (a ∷ []) room = absurd (omega arith)
+mapped_word f outside k (a ∷ b ∷ []) room = absurd (omega arith)
+mapped_word f outside k (a ∷ b ∷ c ∷ []) room = absurd (omega arith)
 
 -- the item at a point of the box, and beyond it
 pub item_inside : {A : Type 0} (p : Picture) (items : List A) (outside : A) (x y : ℤ) → is_in_box p.x0 p.y0 p.w p.h x y ≡ true → at_point p items outside x y ≡ get_or items (place_in_box p.x0 p.y0 p.w x y) outside

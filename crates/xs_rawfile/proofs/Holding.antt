@@ -4,7 +4,7 @@ use Rattle.std.proofs.lemmas.Bool.{cases_eq}
 use Rattle.xs_pixel.specs.Channels.{Channels}
 use Rattle.xs_pixel.specs.Picture.{Picture}
 use Rattle.xs_rawfile.specs.declared.drawing.RawKind.{RawKind}
-use Rattle.xs_rawfile.specs.Raw.{Raw}
+use Rattle.xs_rawfile.specs.Raw.{Raw, IsRaw}
 use Rattle.xs_rawfile.specs.Held.{Held, held, slot_in, IsIn, IsHeld, Names, picture_of}
 
 -- a written item is read back, and every other stays
@@ -34,9 +34,14 @@ held_after_set h d e g g' palette palette' is =
       | inr other ↦ inr (rw (slice_get-set_other h.slots d e (Some (g, palette)) other) at is)
     ]
 
-pub set_held : (pictures : Option (ℕ → Option Picture)) (h : Held) (d : ℕ) (g : Raw) (palette : Option ℕ) → IsHeld pictures h → Names h.palettes g.kind palette
+pub set_held : (pictures : Option (ℕ → Option Picture)) (h : Held) (d : ℕ) (g : Raw) (palette : Option ℕ) → IsHeld pictures h → IsRaw g → Names h.palettes g.kind palette
     → ((told : ℕ → Option Picture) → pictures ≡ Some told → told d ≡ Some (picture_of h.palettes g palette)) → IsHeld pictures (held (slice_set h.slots d (Some (g, palette))) h.palettes)
-set_held pictures h d g palette before names film = record {
+set_held pictures h d g palette before is_raw names film = record {
+  raw = λ e g' palette' is.
+      elim (held_after_set h d e g g' palette palette' is) [
+        | inl new ↦ subst IsRaw new.1 is_raw
+        | inr old ↦ before.raw e g' palette' old
+      ];
   named = λ e g' palette' is.
       elim (held_after_set h d e g g' palette palette' is) [
         | inl new ↦ subst (λ (q : Option ℕ). Names h.palettes g'.kind q) new.2 (subst (λ (r : Raw). Names h.palettes r.kind palette) new.1 names)
@@ -49,6 +54,24 @@ set_held pictures h d g palette before names film = record {
       ];
 }
 
+-- what is held after a removal was held before
+held_after_remove : (h : Held) (d e : ℕ) (g : Raw) (palette : Option ℕ) → IsIn (held (slice_set h.slots d None) h.palettes) e g palette → IsIn h e g palette
+held_after_remove h d e g palette is =
+    elim (cases_eq d e) [
+      | inl same ↦ absurd (none_is_some (slice_get-set_same h.slots d None (Some (g, palette)) (subst (λ (i : ℕ). slice_get (slice_set h.slots d None) i ≡ Some (Some (g, palette))) (sym same) is)))
+      | inr other ↦ rw (slice_get-set_other h.slots d e None other) at is
+    ]
+  where
+    none_is_some : {A : Type 0} {x : A} → None ≡ Some x → ⊥
+    none_is_some h = cc
+
+pub remove_held : (pictures : Option (ℕ → Option Picture)) (h : Held) (d : ℕ) → IsHeld pictures h → IsHeld pictures (held (slice_set h.slots d None) h.palettes)
+remove_held pictures h d before = record {
+  raw = λ e g palette is. before.raw e g palette (held_after_remove h d e g palette is);
+  named = λ e g palette is. before.named e g palette (held_after_remove h d e g palette is);
+  filmed = λ told tells e g palette is. before.filmed told tells e g palette (held_after_remove h d e g palette is);
+}
+
 none_in_empty : (n d : ℕ) (x : Raw × Option ℕ) → slice_get {X = Option (Raw × Option ℕ)} (replicate n None) d ≡ Some (Some x) → ⊥
 none_in_empty zero d x h = cc
 none_in_empty (suc n) zero x h = cc
@@ -56,6 +79,7 @@ none_in_empty (suc n) (suc d) x h = none_in_empty n d x h
 
 pub nothing_held : (pictures : Option (ℕ → Option Picture)) (n : ℕ) (palettes : List (List Channels)) → IsHeld pictures (held (replicate n None) palettes)
 nothing_held pictures n palettes = record {
+  raw = λ d g palette is. absurd (none_in_empty n d (g, palette) is);
   named = λ d g palette is. absurd (none_in_empty n d (g, palette) is);
   filmed = λ told tells d g palette is. absurd (none_in_empty n d (g, palette) is);
 }

@@ -7,7 +7,7 @@ use Rattle.xs_pixel.specs.Picture.{Picture, Content, Colours, Words}
 use Rattle.xs_pixel.specs.Rows.{pixels}
 use Rattle.xs_rawfile.specs.declared.drawing.RawKind.{RawKind}
 use Rattle.xs_rawfile.specs.declared.drawing.RawKind.TheVariants.{Colour, Cm32}
-use Rattle.xs_rawfile.specs.Raw.{Raw}
+use Rattle.xs_rawfile.specs.Raw.{Raw, IsRaw}
 
 -- the drawings by number, each with the number of its palette, if it has one, and the palettes
 pub record Held : Type 0 where
@@ -32,6 +32,10 @@ abbrev pub content_of : RawKind → List ℕ → Content
 content_of Colour bytes = Colours (pixels bytes)
 content_of Cm32 bytes = Words (words bytes)
 
+abbrev pub words_by : RawKind → List ℕ → List ℕ
+words_by Colour bytes = []
+words_by Cm32 bytes = words bytes
+
 -- the pixels that are seen of it under the palette with this number
 abbrev pub coloured_of : List (List Channels) → RawKind → List ℕ → Option ℕ → List Channels
 coloured_of palettes Colour bytes palette = pixels bytes
@@ -44,8 +48,18 @@ picture_of palettes g palette =
     record
     { x0 = g.x0; y0 = g.y0; w = g.w; h = g.h; content = content_of g.kind g.bytes; coloured = coloured_of palettes g.kind g.bytes palette }
 
--- each drawing has a palette where it needs one, and is its picture where pictures are told
+-- the picture that a drawing is without a palette: a CM32 drawing is clear
+abbrev pub plain_picture : Raw → Picture
+plain_picture g = picture_of [] g None
+
+-- the words of a CM32 drawing; a colour drawing has none
+abbrev pub words_of : Raw → List ℕ
+words_of g = words_by g.kind g.bytes
+
+-- each drawing is one that a file may hold, has a palette where it needs one, and is its picture where
+-- pictures are told
 pub record IsHeld (pictures : Option (ℕ → Option Picture)) (h : Held) : Type 0 where
+  pub raw : (d : ℕ) (g : Raw) (palette : Option ℕ) → IsIn h d g palette → IsRaw g
   pub named : (d : ℕ) (g : Raw) (palette : Option ℕ) → IsIn h d g palette → Names h.palettes g.kind palette
   pub filmed : (told : ℕ → Option Picture) → pictures ≡ Some told → (d : ℕ) (g : Raw) (palette : Option ℕ) → IsIn h d g palette → told d ≡ Some (picture_of h.palettes g palette)
 

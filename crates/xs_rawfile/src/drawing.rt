@@ -1,5 +1,6 @@
-ghost use Rattle.std.specs.Prelude.{◌≡◌, ℕ, ◌*◌, ◌≤◌, ◌↔◌, ◌+◌, ℤ, pos, ◌+ℤ◌, int_le, int_lt, ◌&&◌, true, length, IsTrue, IsSome, IfSome};
-ghost use Rattle.xs_pixel.specs.Picture.{is_in_box, place_in_box};
+ghost use Rattle.std.specs.Prelude.{◌≡◌, ℕ, ◌*◌, ◌≤◌, ◌↔◌, ◌+◌, ℤ, pos, ◌+ℤ◌, int_le, int_lt, ◌&&◌, true, length, map, None, Some, slice_index_or, IsTrue, IsSome, IfSome};
+ghost use Rattle.xs_pixel.specs.Picture.{is_in_box, place_in_box, at_point, pixel_at};
+ghost use Rattle.xs_rawfile.specs.Held.{plain_picture, words_of};
 ghost use Rattle.std.specs.Simd.Lanes.{Each1};
 ghost use Rattle.xs_pixel.specs.Channels.{IsPixel};
 ghost use Rattle.xs_pixel.specs.Rows.{pixels};
@@ -7,8 +8,10 @@ ghost use Rattle.xs_rawfile.specs.Tests.{is_side, is_place, kind_byte};
 ghost use Rattle.xs_rawfile.specs.Raw.{Raw, raw, IsRaw, IsSide, IsPlace, Fills};
 
 use crate::premultiplied::first_unmultiplied;
+use crate::shown::{pixel_under, word_at};
 use std::marker::Model;
-use xs_pixel::List;
+use xs_cm32::Cm32;
+use xs_pixel::{List, Pixel};
 
 /// The longest side of a drawing, in pixels.
 pub const LONGEST_SIDE: u32 = 4096;
@@ -134,6 +137,34 @@ impl Drawing {
             Some(row * self.w as usize + column)
         } else {
             None
+        }
+    }
+
+    /// The pixel of a colour drawing at a point; clear beyond the box, and for a CM32 drawing.
+    pub fn pixel(&self, x: i32, y: i32) -> Pixel
+        ensures { result ≡ pixel_at (plain_picture self.now) x y }
+    {
+        pixel_under(self, &[], None, x, y)
+    }
+
+    /// The word of a CM32 drawing at a point; None beyond the box, and for a colour drawing.
+    pub fn word(&self, x: i32, y: i32) -> Option<Cm32>
+        ensures { result ≡ at_point (plain_picture self.now) (map (λ w. Some w) (words_of self.now)) None x y }
+    {
+        match self.place(x, y) {
+            Some(at) => self.word_in(at),
+            None => None,
+        }
+    }
+
+    /// The word with number `at` of a CM32 drawing, and None for a colour drawing.
+    fn word_in(&self, at: usize) -> Option<Cm32>
+        requires { 4 * at + 4 ≤ length self.now.bytes }
+        ensures { result ≡ slice_index_or (map (λ w. Some w) (words_of self.now)) at None }
+    {
+        match self.kind {
+            RawKind::Colour => None,
+            RawKind::Cm32 => Some(word_at(self.bytes.items(), at)),
         }
     }
 

@@ -1,5 +1,5 @@
 ghost use Rattle.std.specs.Prelude.{◌≡◌, ℕ, ◌<◌, ◌↔◌, Option, None, Some, length, replicate, IfOk, IfSome, IsNone, IsSome, slice_get, slice_set};
-ghost use Rattle.xs_rawfile.specs.Held.{Held, held, Names, drawing_in, slot_in, picture_of};
+ghost use Rattle.xs_rawfile.specs.Held.{Held, held, IsHeld, Names, drawing_in, slot_in, picture_of};
 ghost use Rattle.xs_pixel.specs.Picture.{Picture, pixel_at};
 
 use crate::drawing::Drawing;
@@ -51,6 +51,7 @@ impl<K: Film> Drawings<K> {
         requires film { (pictures : ℕ → Option Picture) → K.pictures ≡ Some pictures → pictures d ≡ Some (picture_of self.old.palettes g palette) }
         ensures { self.new ≡ held (slice_set self.old.slots d (Some (g, palette))) self.old.palettes }
     {
+        g.bytes();
         self.slots[d as usize] = Some((g, palette));
     }
 
@@ -72,6 +73,25 @@ impl<K: Film> Drawings<K> {
             Some((drawing, _)) => Some(drawing),
             None => None,
         }
+    }
+
+    /// The drawing with this number, if it is held.
+    pub fn find(&self, d: u32) -> Option<&Drawing>
+        ensures none { IsNone result ↔ (drawing_in self.now d ≡ None) }
+        ensures value { IfSome result (λ g. drawing_in self.now d ≡ Some g.now) }
+    {
+        match self.slots.get(d as usize) {
+            Some(Some((drawing, _))) => Some(drawing),
+            _ => None,
+        }
+    }
+
+    /// What is held: drawings of files, each with a palette where it needs one, and each its picture
+    /// where the film tells its pictures.
+    pub fn hold_their_pictures(&self)
+        ensures { IsHeld K.pictures self.now }
+    {
+        let _slots = &self.slots;
     }
 
     /// The pixel of a drawing's picture at a point, clear beyond its box.

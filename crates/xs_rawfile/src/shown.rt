@@ -32,7 +32,7 @@ fn word_from(bytes: &[u8], at: usize) -> Cm32
 }
 
 /// The word with number `at` of a CM32 drawing.
-fn word_at(bytes: &[u8], at: usize) -> Cm32
+pub(crate) fn word_at(bytes: &[u8], at: usize) -> Cm32
     requires { 4 * at + 4 ≤ length bytes.now }
     ensures { result ≡ slice_index_or (words bytes.now) at 0 }
 {

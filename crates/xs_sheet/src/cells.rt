@@ -28,7 +28,7 @@ fn seen_in(column: &Column, row: u32) -> Seen
 }
 
 /// What an exposure shows at one of its rows.
-fn seen_at(exposure: &Exposure, row: u32) -> Seen
+pub fn seen_at(exposure: &Exposure, row: u32) -> Seen
     requires from { exposure.now.from ≤ row }
     requires to { row ≤ exposure.now.to }
     ensures { result ≡ shown_after (row - exposure.now.from) exposure.now.shown }

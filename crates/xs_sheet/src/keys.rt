@@ -70,7 +70,7 @@ fn earlier(best: Option<PegKey>, key: PegKey) -> PegKey
 }
 
 /// The offset that the key in force gives at a row, with the next key.
-fn offset_between(key: &PegKey, next: Option<PegKey>, row: u32) -> (i32, i32)
+pub fn offset_between(key: &PegKey, next: Option<PegKey>, row: u32) -> (i32, i32)
     requires before { key.now.row ≤ row }
     requires after { IfSome next (λ k. row < k.row) }
     ensures value { point result.0 result.1 ≡ offset_from key.now next row }

@@ -7,7 +7,9 @@ pub mod keys;
 pub mod pegs;
 
 pub use cells::cell;
+pub use keys::own_offset;
 pub use pegs::place;
+pub use xs_scene::Seen;
 
 #[cfg(test)]
 mod tests;

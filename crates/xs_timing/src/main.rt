@@ -2,6 +2,7 @@
 //! without words one line says so.
 #![tactic(auto)]
 
+mod frame;
 mod kernels;
 mod scene_text;
 mod tiles;
@@ -30,6 +31,7 @@ fn main(rt: HostRuntime) -> io::Result<()> {
         None => println!(rt; "xs_timing: name a part to time"),
         Some(part) => match part.as_str() {
             "kernels" => kernels::time(&rt, rt.alloc()),
+            "frame" => frame::time(&rt, rt.alloc()),
             "kernel-bytes" => kernels::write_bytes(&rt, rt.alloc()),
             "decode" | "encode" => time_text(&rt, part.as_str(), words.next()),
             other => println!(rt; "xs_timing: there is no part {other}"),

@@ -1,4 +1,13 @@
 pub mod Parts
-pub mod Answers
+pub mod Answered
 pub mod Wholes
-pub mod Frames
+pub mod Findings
+pub mod Passes
+pub mod Verdicts
+pub mod Listings
+pub mod RowRanges
+pub mod Drawn
+pub mod Placed
+pub mod Shown
+pub mod Sections
+pub mod Commands

@@ -1,11 +1,11 @@
 -- Parts of a run, one after another.
-use Rattle.std.proofs.Common.{◌≡◌, List, [], ◌∷◌, ◌++◌, refl, sym, ap, ◌∙◌, append_assoc, ◌⊎◌, inl, inr}
+use Rattle.std.proofs.Common.{◌≡◌, List, [], ◌∷◌, ◌++◌, refl, false, sym, ap, ◌∙◌, append_assoc, ◌⊎◌, inl, inr}
 use Rattle.xs_outside.specs.Told.{more}
 use Rattle.xs_outside.proofs.Growth.{more-nothing, more-more}
 use Rattle.xs_top.specs.declared.status.Status.{Status}
 use Rattle.xs_top.specs.declared.status.Status.TheVariants as answers
-use Rattle.xs_top.specs.Trace.{Event, Ask, Place, Line, asks, puts, lines, Outcome, after, Seen, grown}
-use Rattle.xs_top.specs.Runs.{Did, Stopped, StoppedAsking, StoppedPlacing, StoppedNoting}
+use Rattle.xs_top.specs.Trace.{Event, Ask, Place, Line, asks, puts, lines, Outcome, ended, after, Seen, grown}
+use Rattle.xs_top.specs.Runs.{Did, is_broken, Stopped, StoppedAsking, StoppedPlacing, StoppedNoting}
 
 -- ---- the three readings of a list of events
 
@@ -61,7 +61,20 @@ stopped_then a b s t u answers.WriteFault first (inr then) =
 stopped_then a b s t u answers.Memory first then = (then.0, did_then first then.1)
 stopped_then a b s t u answers.Ok first then = did_then first then
 stopped_then a b s t u (answers.Usage usage) first then = did_then first then
+stopped_then a b s t u (answers.Scene fault) first then = did_then first then
+stopped_then a b s t u (answers.Level drawing code) first then = did_then first then
 stopped_then a b s t u answers.NotYet first then = did_then first then
+
+-- an answer after which no work is undone ends the run
+pub stopped_whole : (all : Outcome) (before now : Seen) (status : Status) → is_broken status ≡ false → Did all (ended status) before now → Stopped all before now status
+stopped_whole all before now answers.ReadFault whole did = absurd cc
+stopped_whole all before now answers.WriteFault whole did = absurd cc
+stopped_whole all before now answers.Memory whole did = absurd cc
+stopped_whole all before now answers.Ok whole did = did
+stopped_whole all before now (answers.Usage usage) whole did = did
+stopped_whole all before now (answers.Scene fault) whole did = did
+stopped_whole all before now (answers.Level drawing code) whole did = did
+stopped_whole all before now answers.NotYet whole did = did
 
 -- the rest may be named in another way
 pub did_to : (all b c : Outcome) (s t : Seen) → Did all b s t → b ≡ c → Did all c s t

@@ -72,6 +72,8 @@ stopped_run all before now answers.WriteFault (inr stopped) = broken_run all bef
 stopped_run all before now answers.Memory stopped = broken_run all before now _ refl (did_front all _ before now stopped.1) (λ e. cc)
 stopped_run all before now answers.Ok did = whole_run all _ before now did (λ e. cc)
 stopped_run all before now (answers.Usage usage) did = whole_run all _ before now did (λ e. cc)
+stopped_run all before now (answers.Scene fault) did = whole_run all _ before now did (λ e. cc)
+stopped_run all before now (answers.Level drawing code) did = whole_run all _ before now did (λ e. cc)
 stopped_run all before now answers.NotYet did = whole_run all _ before now did (λ e. cc)
 
 -- where no file is left to be put on the shelf, all stand there

@@ -1,7 +1,10 @@
 pub mod Trace
+pub mod Told
 pub mod Runs
 pub mod Texts
-pub mod Small
-pub mod Drawings
 pub mod Frames
+pub mod Levels
+pub mod Rows
+pub mod Scenes
 pub mod Outcome
+pub mod Causes

@@ -1,6 +1,17 @@
-use Rattle.std.specs.Prelude.{ℕ, ◌==◌, List, [], ◌∷◌, length, nat_le, if◌then◌else◌, codes, Option, None, Some, Result, Ok, Err}
+use Rattle.std.specs.Prelude.{ℕ, ◌+◌, ◌-◌, List, [], ◌∷◌, ◌++◌, length, nat_le, if◌then◌else◌, codes, decimal, Option, None, Some, Result, Ok, Err}
+use Rattle.serde_json.specs.Written.{compact_text}
 use Rattle.xs_outside.specs.declared.object.Object.{Object}
-use Rattle.xs_raster.specs.Bitmap.{Bitmap}
+use Rattle.xs_json.specs.declared.code.SceneCode.{SceneCode}
+use Rattle.xs_json.specs.declared.code.SceneCode.TheVariants as scene_code
+use Rattle.xs_json.specs.declared.fault.SceneFault.{SceneFault}
+use Rattle.xs_scene.specs.Records.{SceneRecord}
+use Rattle.xs_scene_json.specs.SceneData.{scene_data}
+use Rattle.xs_scene_json.specs.SceneText.{scene_of}
+use Rattle.xs_rawfile.specs.declared.fault.LevelCode.{LevelCode}
+use Rattle.xs_rawfile.specs.declared.fault.LevelCode.TheVariants as level_code
+use Rattle.xs_rawfile.specs.Level.{first_fault}
+use Rattle.xs_meaning.specs.Drawings.{Pictures}
+use Rattle.xs_needs.specs.Fresh.{fresh}
 use Rattle.xs_words.specs.declared.command.Command.{Command}
 use Rattle.xs_words.specs.declared.command.Command.TheVariants as command
 use Rattle.xs_words.specs.declared.fault.Usage.{Usage}
@@ -9,29 +20,24 @@ use Rattle.xs_top.specs.declared.status.Status.{Status}
 use Rattle.xs_top.specs.declared.status.Status.TheVariants as answers
 use Rattle.xs_top.specs.declared.TheConstants.{SCENE_LIMIT, DRAWING_LIMIT}
 use Rattle.xs_top.specs.Trace.{Ask, Place, Line, Outcome, ended, after}
-use Rattle.xs_top.specs.Small.{SmallSceneRecord, small_scene_of, shows}
-use Rattle.xs_top.specs.Drawings.{drawing_of_file}
-use Rattle.xs_top.specs.Frames.{frame_name_of, frame_bytes_of}
-
--- the files of a library by name
-abbrev pub Files : Type 0
-Files = List ℕ → Option (List ℕ)
+use Rattle.xs_top.specs.Told.{Files, Verdict}
+use Rattle.xs_top.specs.Frames.{frame_at}
+use Rattle.xs_top.specs.Levels.{file_of, kind_of, raw_kind_of, needed, pictures_of}
+use Rattle.xs_top.specs.Rows.{sections_of}
 
 -- ---- the steps of a run, each with what follows it
 
--- what follows the bytes of a file, where it is there and no longer than the limit
-abbrev pub found : Option (List ℕ) → ℕ → (List ℕ → Outcome) → Outcome
-found None limit next = ended answers.NotYet
-found (Some bytes) limit next = if nat_le (length bytes) limit then next bytes else ended answers.NotYet
+-- what follows the bytes of a file, where it is there and no longer than the limit; the two answers where
+-- it is not
+abbrev pub found : Option (List ℕ) → ℕ → Status → Status → (List ℕ → Outcome) → Outcome
+found None limit absent too_long next = ended absent
+found (Some bytes) limit absent too_long next =
+    if nat_le (length bytes) limit then next bytes else ended too_long
 
 -- a file is asked for
-unfoldable pub asking : Files → List ℕ → ℕ → (List ℕ → Outcome) → Outcome
-asking files name limit next = after (Ask name ∷ []) (found (files name) limit next)
-
--- a file's bytes are read
-abbrev pub reading : {A : Type 0} → Option A → (A → Outcome) → Outcome
-reading None next = ended answers.NotYet
-reading (Some value) next = next value
+unfoldable pub asking : Files → List ℕ → ℕ → Status → Status → (List ℕ → Outcome) → Outcome
+asking files name limit absent too_long next =
+    after (Ask name ∷ []) (found (files name) limit absent too_long next)
 
 -- a finished file is put on the shelf
 unfoldable pub placing : Object → Outcome → Outcome
@@ -41,57 +47,105 @@ placing object next = after (Place object ∷ []) next
 unfoldable pub noting : List ℕ → Outcome → Outcome
 noting line next = after (Line line ∷ []) next
 
--- ---- the parts of a run
+-- ---- the scene
+
+-- the answer where there is no scene file that can be read
+abbrev pub no_scene : SceneCode → Status
+no_scene code = answers.Scene (record { code = code; path = [] })
+
+-- what checking finds
+abbrev pub checked : Option SceneFault → Outcome → Outcome
+checked (Some fault) next = ended (answers.Scene fault)
+checked None next = next
+
+-- what the text of a scene says, and what checking finds in it
+abbrev pub decoded : Verdict → Result SceneRecord SceneFault → (SceneRecord → Outcome) → Outcome
+decoded verdict (Err fault) next = ended (answers.Scene fault)
+decoded verdict (Ok s) next = checked (verdict s) (next s)
 
 -- the scene is loaded
-unfoldable pub loading_scene : Files → List ℕ → (SmallSceneRecord → Outcome) → Outcome
-loading_scene files name next = asking files name SCENE_LIMIT (λ bytes. reading (small_scene_of bytes) next)
+unfoldable pub loading_scene : Files → Verdict → List ℕ → (SceneRecord → Outcome) → Outcome
+loading_scene files verdict name next =
+    asking files name SCENE_LIMIT (no_scene scene_code.NoScene) (no_scene scene_code.TooLong)
+    (λ bytes. decoded verdict (scene_of bytes) next)
 
--- the drawing of a scene is loaded, if the row shows it
-unfoldable pub loading_drawing : Files → SmallSceneRecord → ℕ → (Option Bitmap → Outcome) → Outcome
-loading_drawing files scene row next =
-    if shows scene.shown row
-    then asking files scene.drawing DRAWING_LIMIT (λ bytes. reading (drawing_of_file bytes) (λ drawing. next (Some drawing)))
-    else next None
+-- ---- the drawings
 
--- the frame of a row
-abbrev pub frame_of : List ℕ → SmallSceneRecord → ℕ → Option Bitmap → Object
-frame_of base scene row drawing =
-    record { name = frame_name_of base row; bytes = frame_bytes_of scene.w scene.h drawing }
+-- what follows the file of a drawing, where it has no fault
+abbrev pub accepted : ℕ → Option LevelCode → Outcome → Outcome
+accepted d (Some code) next = ended (answers.Level d code)
+accepted d None next = next
 
--- the line at the end
-unfoldable pub closing : Outcome
-closing = noting (codes "rendered 1 rows") (ended answers.Ok)
+-- a drawing is loaded
+unfoldable pub loading_drawing : Files → SceneRecord → ℕ → Outcome → Outcome
+loading_drawing files s d next =
+    asking files (file_of s d) DRAWING_LIMIT (answers.Level d level_code.Absent) (answers.Level d level_code.TooLong)
+    (λ bytes. accepted d (first_fault (raw_kind_of (kind_of s d)) bytes) next)
 
--- the frame that shows this drawing or none is put on the shelf
-abbrev pub showing : List ℕ → SmallSceneRecord → ℕ → Option Bitmap → Outcome
-showing base scene row drawing = placing (frame_of base scene row drawing) closing
+-- drawings are loaded in order
+unfoldable pub loading : Files → SceneRecord → List ℕ → Outcome → Outcome
+loading files s [] next = next
+loading files s (d ∷ ds) next = loading_drawing files s d (loading files s ds next)
 
--- a row of a scene is rendered
-abbrev pub seeing : Files → List ℕ → ℕ → SmallSceneRecord → Outcome
-seeing files base row scene = loading_drawing files scene row (showing base scene row)
+-- ---- the rows
 
--- one row is rendered
-unfoldable pub rendering_row : Files → List ℕ → ℕ → List ℕ → Outcome
-rendering_row files name row base = loading_scene files name (seeing files base row)
+-- the frames of rows are put on the shelf in order
+unfoldable pub placing_rows : SceneRecord → Pictures → List ℕ → List ℕ → Outcome → Outcome
+placing_rows s pictures base [] next = next
+placing_rows s pictures base (row ∷ rows) next =
+    placing (frame_at s pictures base row) (placing_rows s pictures base rows next)
 
--- rows are rendered
-unfoldable pub rendering : Files → List ℕ → ℕ → ℕ → List ℕ → Outcome
-rendering files name from to base = if from == to then rendering_row files name from base else ended answers.NotYet
+-- a section: the drawings that its rows need and no earlier row needs are loaded, and then its frames are
+-- put on the shelf
+unfoldable pub rendering_section : Files → SceneRecord → List ℕ → (earlier rows : List ℕ) → Outcome → Outcome
+rendering_section files s base earlier rows next =
+    loading files s (fresh (needed s earlier) (needed s rows))
+    (placing_rows s (pictures_of files s) base rows next)
+
+-- sections are rendered in order, after earlier rows
+unfoldable pub rendering_sections : Files → SceneRecord → List ℕ → List ℕ → List (List ℕ) → Outcome → Outcome
+rendering_sections files s base earlier [] next = next
+rendering_sections files s base earlier (rows ∷ sections) next =
+    rendering_section files s base earlier rows
+    (rendering_sections files s base (earlier ++ rows) sections next)
+
+-- the line at the end of so many rows
+abbrev pub rendered_line : ℕ → List ℕ
+rendered_line rows = codes "rendered " ++ decimal rows ++ codes " rows"
+
+unfoldable pub closing : ℕ → Outcome
+closing rows = noting (rendered_line rows) (ended answers.Ok)
+
+-- ---- the commands
+
+-- the rows of a scene are rendered
+abbrev pub rendering_scene : Files → ℕ → ℕ → List ℕ → SceneRecord → Outcome
+rendering_scene files from to base s =
+    rendering_sections files s base [] (sections_of from to) (closing (to + 1 - from))
+
+unfoldable pub rendering : Files → Verdict → List ℕ → ℕ → ℕ → List ℕ → Outcome
+rendering files verdict name from to base = loading_scene files verdict name (rendering_scene files from to base)
+
+-- the text of a scene in format 2 is written
+abbrev pub showing_scene : SceneRecord → Outcome
+showing_scene s = noting (compact_text (scene_data (record s { format = 2 }))) (ended answers.Ok)
+
+unfoldable pub showing : Files → Verdict → List ℕ → Outcome
+showing files verdict name = loading_scene files verdict name showing_scene
 
 -- a command is carried out
-unfoldable pub commanding : Files → Command → Outcome
-commanding files (command.Render scene from to workers base) = rendering files scene from to base
-commanding files (command.Dry scene from to) = ended answers.NotYet
-commanding files (command.Show scene) = ended answers.NotYet
-commanding files (command.Make seed rows workers) = ended answers.NotYet
-commanding files (command.Again old new from to workers base) = ended answers.NotYet
+unfoldable pub commanding : Files → Verdict → Command → Outcome
+commanding files verdict (command.Render scene from to workers base) = rendering files verdict scene from to base
+commanding files verdict (command.Dry scene from to) = ended answers.NotYet
+commanding files verdict (command.Show scene) = showing files verdict scene
+commanding files verdict (command.Make seed rows workers) = ended answers.NotYet
+commanding files verdict (command.Again old new from to workers base) = ended answers.NotYet
 
 -- words are a command, or none
-abbrev pub obeying : Files → Result Command Usage → Outcome
-obeying files (Err usage) = ended (answers.Usage usage)
-obeying files (Ok command) = commanding files command
+abbrev pub obeying : Files → Verdict → Result Command Usage → Outcome
+obeying files verdict (Err usage) = ended (answers.Usage usage)
+obeying files verdict (Ok command) = commanding files verdict command
 
 -- the outcome of these words over a library of these files
-unfoldable pub outcome : Files → List (List ℕ) → Outcome
-outcome files words = obeying files (reading_of words)
+unfoldable pub outcome : Files → Verdict → List (List ℕ) → Outcome
+outcome files verdict words = obeying files verdict (reading_of words)

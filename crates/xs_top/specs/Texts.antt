@@ -1,4 +1,11 @@
-use Rattle.std.specs.Prelude.{◌≡◌, ℕ, List, [], ◌++◌, codes, decimal}
+use Rattle.std.specs.Prelude.{◌≡◌, ℕ, List, [], ◌∷◌, ◌++◌, codes, decimal}
+use Rattle.xs_json.specs.Codes.{code_number, code_name}
+use Rattle.xs_json.specs.declared.fault.SceneFault.{SceneFault}
+use Rattle.xs_json.specs.declared.fault.FieldFault.{FieldFault}
+use Rattle.xs_json.specs.declared.fault.FieldFault.TheVariants as field
+use Rattle.xs_rawfile.specs.Codes.{number_of as level_number}
+use Rattle.xs_rawfile.specs.declared.fault.LevelCode.{LevelCode}
+use Rattle.xs_rawfile.specs.declared.fault.LevelCode.TheVariants as level
 use Rattle.xs_words.specs.declared.fault.Usage.{Usage}
 use Rattle.xs_words.specs.declared.fault.Usage.TheVariants as usage
 use Rattle.xs_words.specs.declared.fault.WordsFault.{WordsFault}
@@ -10,6 +17,8 @@ use Rattle.xs_top.specs.declared.status.Status.TheVariants as answers
 abbrev pub number_of : Status → ℕ
 number_of answers.Ok = 0
 number_of (answers.Usage usage) = 1
+number_of (answers.Scene fault) = 2
+number_of (answers.Level drawing code) = 3
 number_of answers.ReadFault = 4
 number_of answers.WriteFault = 5
 number_of answers.Memory = 6
@@ -27,10 +36,32 @@ usage_text_of (usage.Number word) = about_word (codes "usage 4: word ") word (co
 usage_text_of (usage.Range word) = about_word (codes "usage 5: word ") word (codes " is out of range")
 usage_text_of (usage.Name word) = about_word (codes "usage 6: word ") word (codes " is not a name")
 
+-- a path as it is printed: the empty one, of the whole text, has a word
+abbrev pub path_text_of : List ℕ → List ℕ
+path_text_of [] = codes "(top)"
+path_text_of (first ∷ rest) = first ∷ rest
+
+-- what is wrong with a scene, and where
+unfoldable pub scene_text_of : SceneFault → List ℕ
+scene_text_of fault =
+    codes "scene S" ++ decimal (code_number fault.code) ++ codes " at " ++ path_text_of fault.path ++ codes ": " ++ code_name fault.code
+
+-- the pixel that is told with a code, if one is
+abbrev pub pixel_text_of : LevelCode → List ℕ
+pixel_text_of (level.NotPremultiplied pixel) = codes " at pixel " ++ decimal pixel
+pixel_text_of code = []
+
+-- what is wrong with a drawing
+unfoldable pub level_text_of : ℕ → LevelCode → List ℕ
+level_text_of drawing code =
+    codes "drawing " ++ decimal drawing ++ codes ": level code " ++ decimal (level_number code) ++ pixel_text_of code
+
 -- what the user reads
 abbrev pub text_of : Status → List ℕ
 text_of answers.Ok = []
 text_of (answers.Usage usage) = usage_text_of usage
+text_of (answers.Scene fault) = scene_text_of fault
+text_of (answers.Level drawing code) = level_text_of drawing code
 text_of answers.ReadFault = codes "read fault"
 text_of answers.WriteFault = codes "write fault"
 text_of answers.Memory = codes "out of memory"
@@ -40,3 +71,8 @@ text_of answers.NotYet = codes "not built yet"
 abbrev pub IsStatusOf : WordsFault → Status → Type 0
 IsStatusOf (words.Usage usage) status = status ≡ answers.Usage usage
 IsStatusOf words.Memory status = status ≡ answers.Memory
+
+-- the status of a fault of a scene
+abbrev pub scene_status : FieldFault → Status
+scene_status (field.Fault fault) = answers.Scene fault
+scene_status field.Memory = answers.Memory

@@ -4,21 +4,22 @@
 //! order, and its answer; the contract of `run` says what each answer has done of it.
 #![tactic(auto)]
 
-mod drawing;
-mod frame;
+mod command;
+mod frames;
+mod levels;
+mod palettes;
 mod render;
-mod small_scene;
+mod scene;
 mod status;
 mod steps;
+mod texts;
 
-pub use render::run;
-pub use status::{Status, fault_text, status_number};
+pub use command::run;
+pub use status::{Status, status_number};
+pub use texts::fault_text;
 
 /// The most bytes that a scene file may have.
 pub const SCENE_LIMIT: u64 = 16_777_216;
 
 /// The most bytes that the file of a drawing may have.
 pub const DRAWING_LIMIT: u64 = 67_108_885;
-
-#[cfg(test)]
-mod tests;

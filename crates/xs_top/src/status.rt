@@ -1,8 +1,9 @@
-ghost use Rattle.std.specs.Prelude.{◌≡◌, IfOk, string_bytes};
-ghost use Rattle.xs_top.specs.Texts.{number_of, text_of, usage_text_of, IsStatusOf};
+ghost use Rattle.std.specs.Prelude.{◌≡◌};
+ghost use Rattle.xs_top.specs.Texts.{number_of, IsStatusOf, scene_status};
 
-use std::alloc::Global;
+use xs_json::{FieldFault, SceneFault};
 use xs_pixel::Memory;
+use xs_rawfile::LevelCode;
 use xs_words::{Usage, WordsFault};
 
 /// How a run ended.
@@ -12,6 +13,10 @@ pub enum Status {
     Ok,
     /// The words are no command.
     Usage(Usage),
+    /// There is no scene, or it has a fault.
+    Scene(SceneFault),
+    /// The file of a drawing, told by its number, is not there or has a fault.
+    Level { drawing: u32, code: LevelCode },
     /// The library had a fault.
     ReadFault,
     /// The shelf or the notes had a fault.
@@ -42,6 +47,16 @@ pub(crate) fn status_of(fault: WordsFault) -> Status
     }
 }
 
+/// The status of a fault of a scene.
+pub(crate) fn status_of_scene(fault: FieldFault) -> Status
+    ensures { result ≡ scene_status fault }
+{
+    match fault {
+        FieldFault::Fault(fault) => Status::Scene(fault),
+        FieldFault::Memory => Status::Memory,
+    }
+}
+
 /// The number with which the program ends.
 pub fn status_number(status: &Status) -> u8
     ensures { result ≡ number_of status.now }
@@ -49,39 +64,11 @@ pub fn status_number(status: &Status) -> u8
     match status {
         Status::Ok => 0,
         Status::Usage(_) => 1,
+        Status::Scene(_) => 2,
+        Status::Level { .. } => 3,
         Status::ReadFault => 4,
         Status::WriteFault => 5,
         Status::Memory => 6,
         Status::NotYet => 8,
     }
-}
-
-/// What went wrong, as a line for the user without its end; empty for Ok.
-pub fn fault_text(alloc: Global, status: &Status) -> Result<Vec<u8>, Memory>
-    ensures { IfOk result (λ text. text.items ≡ text_of status.now) }
-{
-    let text = match status {
-        Status::Ok => String::new(alloc),
-        Status::Usage(usage) => usage_text(alloc, usage)?,
-        Status::ReadFault => String::from_str(alloc, "read fault")?,
-        Status::WriteFault => String::from_str(alloc, "write fault")?,
-        Status::Memory => String::from_str(alloc, "out of memory")?,
-        Status::NotYet => String::from_str(alloc, "not built yet")?,
-    };
-    Ok(text.into_bytes())
-}
-
-/// What is wrong with the words.
-fn usage_text(alloc: Global, usage: &Usage) -> Result<String, Memory>
-    ensures { IfOk result (λ text. string_bytes text ≡ usage_text_of usage.now) }
-{
-    let text = match usage {
-        Usage::NoCommand => String::from_str(alloc, "usage 1: no command")?,
-        Usage::Unknown => String::from_str(alloc, "usage 2: unknown command")?,
-        Usage::Count => String::from_str(alloc, "usage 3: wrong number of words")?,
-        Usage::Number(word) => format!(in alloc; "usage 4: word {word} is not a number")?,
-        Usage::Range(word) => format!(in alloc; "usage 5: word {word} is out of range")?,
-        Usage::Name(word) => format!(in alloc; "usage 6: word {word} is not a name")?,
-    };
-    Ok(text)
 }

@@ -1,32 +1,41 @@
-ghost use Rattle.std.specs.Prelude.{◌≡◌, ◌≤◌, [], List, ℕ, Some, Err, IsErrOf};
+ghost use Rattle.std.specs.Prelude.{◌≡◌, ◌≤◌, ◌⊎◌, false, [], List, ℕ, None, Some, Err, length, IfOk, IfErr, IfSome, IsErrOf};
 ghost use Rattle.xs_outside.specs.Told.{Rose};
 ghost use Rattle.xs_top.specs.Trace.{Outcome, Seen, puts, with_asked, with_shelf, with_notes};
-ghost use Rattle.xs_top.specs.Runs.{Runs};
-ghost use Rattle.xs_top.specs.Outcome.{Files, asking, placing, noting};
+ghost use Rattle.xs_top.specs.Runs.{Runs, is_broken};
+ghost use Rattle.xs_top.specs.Told.{Files};
+ghost use Rattle.xs_top.specs.Outcome.{asking, placing, noting};
 
 use crate::status::Status;
 use std::alloc::Global;
 use xs_outside::{Fetched, Library, Noted, Notes, Put, Shelf};
 
-/// Asks for a file of at most `limit` bytes.
+/// Asks for a file of at most `limit` bytes; the answers where there is none and where it is longer.
 pub(crate) fn ask<L: Library>(
     alloc: Global,
     lib: &mut L,
     name: &str,
     limit: u64,
+    absent: Status,
+    too_long: Status,
 ) -> Result<Vec<u8>, Status>
+    requires absent { is_broken absent ≡ false }
+    requires too_long { is_broken too_long ≡ false }
     ensures told { (files : Files) → L.files lib.old ≡ Some files → (next : List ℕ → Outcome) (seen : Seen) →
-        Runs (asking files name.now limit next) (λ bytes. next bytes.items)
+        Runs (asking files name.now limit absent too_long next) (λ bytes. next bytes.items)
         (with_asked seen (L.asked lib.old)) (with_asked seen (L.asked lib.new)) result }
+    ensures bytes { IfOk result (λ bytes. (files : Files) → L.files lib.old ≡ Some files
+        → files name.now ≡ Some bytes.items) }
     ensures same { L.files lib.new ≡ L.files lib.old }
     ensures later { L.faults lib.old ≤ L.faults lib.new }
     ensures read { IsErrOf result Status.ReadFault → Rose (L.faults lib.old) (L.faults lib.new) }
     ensures write { IsErrOf result Status.WriteFault → ⊥ }
+    ensures untold { L.files lib.old ≡ None → IfErr result
+        (λ status. (status ≡ Status.Memory) ⊎ Rose (L.faults lib.old) (L.faults lib.new)) }
 {
     match lib.get(alloc, name, limit) {
         Fetched::Bytes(bytes) => Ok(bytes),
-        Fetched::Absent => Err(Status::NotYet),
-        Fetched::TooLong => Err(Status::NotYet),
+        Fetched::Absent => Err(absent),
+        Fetched::TooLong => Err(too_long),
         Fetched::Failed => Err(Status::ReadFault),
         Fetched::Memory => Err(Status::Memory),
     }

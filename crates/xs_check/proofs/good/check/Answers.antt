@@ -1,5 +1,17 @@
+use Rattle.std.proofs.Common.{List, length, ap, ◌∙◌, subst}
+use Rattle.xs_scene.specs.Records.{SceneRecord, LevelRecord}
+use Rattle.xs_check.specs.Readers.{IsNumbering}
 use Rattle.xs_check.proofs.Goods.{good_scene}
 use Rattle.xs_check.proofs.good.check.Goals as goal
 
 pub invariant_of-result : goal.invariant_of-result
-invariant_of-result c = good_scene c.args.s c.in_ok-first_fault.ensures c.in_range.ensures
+invariant_of-result c =
+    record {
+      good = good_scene c.args.s c.in_ok-first_fault.ensures c.in_range.ensures;
+      index_of = c.in_ok-index.ensures;
+      numbering =
+          subst
+          (λ (levels : List LevelRecord). IsNumbering levels (length levels) c.in_ok-numbers.numbers.firsts.items c.in_ok-numbers.numbers.owners.items)
+          (c.items.ensures ∙ ap (λ (s : SceneRecord). s.levels) c.s.view_is) c.in_ok-numbers.ensures.numbering;
+      few = c.in_ok-numbers.ensures.few;
+    }

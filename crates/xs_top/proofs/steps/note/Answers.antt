@@ -1,5 +1,5 @@
 use Rattle.std.proofs.Common.{inr}
-use Rattle.xs_top.proofs.Answers.{noted_done, noted_failed, noted_memory}
+use Rattle.xs_top.proofs.Answered.{noted_done, noted_failed, noted_memory}
 use Rattle.xs_top.proofs.steps.note.Goals as goal
 
 pub returns-in-Done-clause-told : goal.returns-in-Done-clause-told

@@ -1,5 +1,5 @@
 use Rattle.std.proofs.Common.{inl}
-use Rattle.xs_top.proofs.Answers.{placed_done, placed_failed, placed_memory}
+use Rattle.xs_top.proofs.Answered.{placed_done, placed_failed, placed_memory}
 use Rattle.xs_top.proofs.steps.place.Goals as goal
 
 pub returns-in-Done-clause-told : goal.returns-in-Done-clause-told

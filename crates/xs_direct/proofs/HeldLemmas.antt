@@ -1,0 +1,96 @@
+-- A frame from the drawings that are held is that of the pictures that are told
+use Rattle.std.proofs.Common.{ℕ, ◌≡◌, Option, Some, None, IsSome, IfSome, List, [], ◌∷◌, pos, map, flat_map, slice_get, option_map, option_and_then, refl, sym, ap}
+use Rattle.std.specs.List.{range_with_len, AllByRecursion}
+use Rattle.std.specs.Simd.Lanes.{Each1}
+use Rattle.std.proofs.lemmas.List.Elements.{All-from_recursion, All-contains}
+use mathlib.Core.Path.{fun_ext}
+use Rattle.xs_pixel.specs.Channels.{Channels, IsPixel}
+use Rattle.xs_pixel.specs.Picture.{Picture}
+use Rattle.xs_pixel.specs.Rows.{pixels}
+use Rattle.xs_rect.specs.Area.{area}
+use Rattle.xs_raster.specs.Bitmap.{bitmap}
+use Rattle.xs_rawfile.specs.declared.drawing.RawKind.{RawKind}
+use Rattle.xs_rawfile.specs.declared.drawing.RawKind.TheVariants.{Colour, Cm32}
+use Rattle.xs_rawfile.specs.Raw.{Raw, Fills}
+use Rattle.xs_rawfile.specs.Frame.{frame_of as file_of}
+use Rattle.xs_rawfile.specs.Held.{Held, IsHeld, IsIn, slot_in, picture_of, content_of}
+use Rattle.xs_scene.specs.InRange.{IsInRange}
+use Rattle.xs_scene.specs.Records.{SceneRecord}
+use Rattle.xs_meaning.specs.Agreement.{AgreeOn}
+use Rattle.xs_meaning.specs.Drawings.{Pictures, ArePixels, HoldsPixels}
+use Rattle.xs_meaning.specs.Expressions.{root_of, drawings_of}
+use Rattle.xs_meaning.specs.Points.{Point, point}
+use Rattle.xs_meaning.specs.Rows.{Image, frame_pixel}
+use Rattle.xs_direct.specs.Frames.{frame_file}
+use Rattle.xs_direct.specs.Pictures.{pictures_in, AreHeld}
+
+each-recursion : {A : Type 0} (P : A → Type 0) (xs : List A) → Each1 P xs → AllByRecursion P xs
+each-recursion P [] each = tt
+each-recursion P (x ∷ xs) each = (each.0, each-recursion P xs each.1)
+
+filled : (kind : RawKind) (bytes : List ℕ) → Fills kind bytes → HoldsPixels (content_of kind bytes)
+filled Colour bytes fills = All-from_recursion IsPixel (pixels bytes) (each-recursion IsPixel (pixels bytes) fills)
+filled Cm32 bytes fills = tt
+
+in_slot : {X : Type 0} (o : Option (Option X)) (x : X) → option_and_then (λ (slot : Option X). slot) o ≡ Some x → o ≡ Some (Some x)
+in_slot None x is = absurd (let e : None ≡ Some x = is in cc)
+in_slot (Some slot) x is = ap Some is
+
+-- what holds of each drawing that is held holds of a slot, if there is one
+each_slot :
+    (h : Held) (d : ℕ) (P : Raw → Option ℕ → Type 0) → ((g : Raw) (palette : Option ℕ) → IsIn h d g palette → P g palette)
+    → IfSome (slot_in h d) (λ slot. P slot.0 slot.1)
+each_slot h d P each = by_cases (slot_in h d) refl
+  where
+    by_cases : (slot : Option (Raw × Option ℕ)) → slot_in h d ≡ slot → IfSome slot (λ slot. P slot.0 slot.1)
+    by_cases None is = tt
+    by_cases (Some slot) is = each slot.0 slot.1 (in_slot (slice_get h.slots d) slot is)
+
+mapped : {A B : Type 0} (f : A → B) (o : Option A) (P : B → Type 0) → IfSome o (λ a. P (f a)) → IfSome (option_map f o) P
+mapped f None P has = tt
+mapped f (Some a) P has = has
+
+pub ArePixels-held : (told : Option (ℕ → Option Picture)) (h : Held) → IsHeld told h → ArePixels (pictures_in h)
+unfolding pictures_in
+ArePixels-held told h held d =
+    mapped (λ (slot : Raw × Option ℕ). picture_of h.palettes slot.0 slot.1) (slot_in h d) (λ (q : Picture). HoldsPixels q.content)
+    (each_slot h d (λ g palette. HoldsPixels (content_of g.kind g.bytes)) (λ g palette is. filled g.kind g.bytes (held.raw d g palette is).fills))
+
+slot_same :
+    (palettes : List (List Channels)) (picture : Option Picture) (slot : Option (Raw × Option ℕ)) → IsSome slot
+    → IfSome slot (λ slot. picture ≡ Some (picture_of palettes slot.0 slot.1))
+    → option_map (λ (slot : Raw × Option ℕ). picture_of palettes slot.0 slot.1) slot ≡ picture
+slot_same palettes picture None some same = absurd (let e : IsSome {T = Raw × Option ℕ} None = some in cc)
+slot_same palettes picture (Some slot) some same = sym same
+
+pub held-agree :
+    (told : Option (ℕ → Option Picture)) (h : Held) (pictures : Pictures) (ds : List ℕ) → IsHeld told h → told ≡ Some pictures
+    → AreHeld h ds → AgreeOn (pictures_in h) pictures ds
+unfolding pictures_in
+held-agree told h pictures ds held tells are d among =
+    slot_same h.palettes (pictures d) (slot_in h d) (All-contains (λ d. IsSome (slot_in h d)) ds d are among)
+    (each_slot h d (λ g palette. pictures d ≡ Some (picture_of h.palettes g palette)) (λ g palette is. held.filmed pictures tells d g palette is))
+
+same-frame :
+    (s : SceneRecord) (pictures others : Pictures) (row : ℕ)
+    → ((p : Point) → frame_pixel s pictures row p ≡ frame_pixel s others row p)
+    → frame_file s pictures row ≡ frame_file s others row
+unfolding frame_file
+same-frame s pictures others row same =
+    ap
+    (λ (image : Image).
+    file_of (bitmap (area (pos 0) (pos 0) s.camera.w s.camera.h)
+    (flat_map (λ y. map (λ x. image (point (pos x) (pos y))) (range_with_len 0 s.camera.w)) (range_with_len 0 s.camera.h))))
+    (fun_ext same)
+
+pub told-frame :
+    (s : SceneRecord) (told : Option (ℕ → Option Picture)) (h : Held) (pictures : Pictures) (row : ℕ)
+    → ((s : SceneRecord) (pictures others : Pictures) → IsInRange s → ArePixels pictures → ArePixels others → (row : ℕ)
+    → AgreeOn pictures others (drawings_of (root_of s row)) → (p : Point)
+    → frame_pixel s pictures row p ≡ frame_pixel s others row p)
+    → IsInRange s → IsHeld told h → told ≡ Some pictures → ArePixels pictures → AreHeld h (drawings_of (root_of s row))
+    → frame_file s (pictures_in h) row ≡ frame_file s pictures row
+told-frame s told h pictures row own range held tells pixels are =
+    same-frame s (pictures_in h) pictures row
+    (own s (pictures_in h) pictures range (ArePixels-held told h held) pixels row
+    (held-agree told h pictures (drawings_of (root_of s row)) held tells are))

@@ -1,0 +1,14 @@
+use Rattle.std.proofs.Common.{refl, ◌∙◌}
+use Rattle.xs_meaning.specs.Drawings.{colouring_at}
+use Rattle.xs_direct.specs.Filters.{dropped_of}
+use Rattle.xs_direct.proofs.DrawingLemmas.{held-shown, lacking-clear}
+use Rattle.xs_direct.proofs.drawing.drawing_at.Goals as goal
+
+pub returns-in-Some : goal.returns-in-Some
+returns-in-Some g c =
+    c.shown_at.ensures
+    ∙ held-shown c.args.drawings.now c.args.d c.in-Some.drawing.now (colouring_at c.args.s.now c.args.d c.args.row (dropped_of c.args.f.now)) c.args.p c.in-Some.ensures.value
+
+pub returns-in-None : goal.returns-in-None
+returns-in-None g c =
+    lacking-clear c.args.drawings.now c.args.d (colouring_at c.args.s.now c.args.d c.args.row (dropped_of c.args.f.now)) c.args.p (c.in-None.ensures.none.0 refl)

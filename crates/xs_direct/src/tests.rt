@@ -1,0 +1,54 @@
+//! A frame of two pixels: a drawing of one pixel over a card.
+
+use crate::frame::frame_direct;
+use std::alloc::Global;
+use std::marker::Brand;
+use std::test::Fail;
+use xs_check::{GoodScene, check};
+use xs_pixel::{List, Style};
+use xs_rawfile::{Drawing, Drawings, RawKind};
+use xs_scene::{Camera, Column, Exposure, Kind, Level, Name, Node, Ref, Scene, Sheet, Shown};
+
+/// A column that shows the one drawing at row 1, above a card.
+fn sheet(alloc: Global) -> Result<Sheet, Fail> {
+    let shown = Shown::Drawing { level: 0, index: 0 };
+    let cell = Exposure::new(1, 1, shown).ok_or("an exposure")?;
+    let column = Column::new(None, false, List::of(vec![in alloc; cell]?)).ok_or("a column")?;
+    let red = Style {
+        r: 255,
+        g: 0,
+        b: 0,
+        a: 128,
+    };
+    let out = vec![in alloc; Ref::Node(0), Ref::Column(0)]?;
+    let columns = List::of(vec![in alloc; column]?);
+    let nodes = List::of(vec![in alloc; Node::Card(red)]?);
+    let pegs = List::of(Vec::new(alloc));
+    Ok(Sheet::new(pegs, columns, nodes, Some(List::of(out))).ok_or("a sheet")?)
+}
+
+fn scene(alloc: Global) -> Result<GoodScene, Fail> {
+    let name = Name::new(String::from_str(alloc, "a")?).ok_or("a name")?;
+    let level = Level::new(Kind::Colour, List::of(vec![in alloc; name]?)).ok_or("a level")?;
+    let camera = Camera::new(2, 1, None).ok_or("a camera")?;
+    let palettes = List::of(Vec::new(alloc));
+    let levels = List::of(vec![in alloc; level]?);
+    let sheets = List::of(vec![in alloc; sheet(alloc)?]?);
+    let scene = Scene::new(1, camera, palettes, levels, sheets).ok_or("a scene")?;
+    Ok(check(alloc, scene).ok().ok_or("a good scene")?)
+}
+
+#[test]
+fn lays_a_drawing_over_a_card(rt: HostRuntime) -> Result<(), Fail> {
+    let scene = scene(rt.alloc())?;
+    let palettes = List::of(Vec::new(rt.alloc()));
+    let mut drawings = Drawings::<Brand>::new(rt.alloc(), 1, palettes)?;
+    let bytes = [10u8, 20, 30, 255].to_vec(rt.alloc())?;
+    let drawing = Drawing::new(1, 0, 1, 1, RawKind::Colour, List::of(bytes)).ok_or("a drawing")?;
+    drawings.set(0, drawing, None);
+    assert_eq!(rt;
+        frame_direct(rt.alloc(), &scene, &drawings, 1)?.as_slice(),
+        b"XFR1\x02\0\0\0\x01\0\0\0\x80\0\0\x80\x0a\x14\x1e\xff".as_slice()
+    );
+    Ok(())
+}

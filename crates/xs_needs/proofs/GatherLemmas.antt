@@ -1,0 +1,82 @@
+-- One step of the gathering of drawings
+use Rattle.std.proofs.Common.{◌≡◌, ◌<◌, ℕ, suc, cond, Result, Ok, Err, List, [], ◌∷◌, ◌++◌, length, drop, get_or, All, Contains, OnOk, sym, ap, ◌∙◌, subst}
+use Rattle.std.proofs.Math.Seq.{drop-cons, drop-length}
+use Rattle.std.proofs.lemmas.List.Elements.{All-push}
+use Rattle.xs_scene.specs.declared.node.Ref.{Ref}
+use Rattle.xs_scene.specs.Records.{SceneRecord}
+use Rattle.xs_meaning.specs.Expressions.{Staying, Both, First, Second, Neither}
+use Rattle.xs_meaning.specs.Palettes.{is_listed}
+use Rattle.xs_meaning.proofs.Lists.{by_test}
+use Rattle.xs_check.specs.Good.{files_of}
+use Rattle.xs_needs.specs.declared.found.Found.{Found}
+use Rattle.xs_needs.specs.declared.found.Gathered.{Gathered}
+use Rattle.xs_needs.specs.Found.{AreWhole, IsSound}
+use Rattle.xs_needs.specs.Fresh.{with_one, gathered}
+use Rattle.xs_needs.specs.Rules.{drawings_over}
+use Rattle.xs_needs.specs.Shown.{Showing, drawings_in, showing_staying, first_stays, second_stays}
+use Rattle.xs_needs.proofs.FreshLemmas.{gathered-nil, gathered-one, gathered-append, gathered-keeps}
+
+-- what follows from two facts that hold where a call succeeds holds there
+pub OnOk-both : {A E : Type 0} (r : Result A E) (P Q R : Type 0) → (P → Q → R) → OnOk r P → OnOk r Q → OnOk r R
+OnOk-both (Ok a) P Q R leads first second = leads first second
+OnOk-both (Err e) P Q R leads first second = tt
+
+-- a pair: first the drawings of the first input if it stays, then those of the second if that stays
+pub gathered-pair :
+    (known : List ℕ) (stays : Staying) (a b : Showing)
+    → gathered (gathered known (cond (first_stays stays) (drawings_in a) [])) (cond (second_stays stays) (drawings_in b) [])
+    ≡ gathered known (drawings_in (showing_staying stays a b))
+gathered-pair known Both a b = sym (gathered-append known (drawings_in a) (drawings_in b))
+gathered-pair known First a b = gathered-nil (gathered known (drawings_in a))
+gathered-pair known Second a b = ap (λ l. gathered l (drawings_in b)) (gathered-nil known)
+gathered-pair known Neither a b = gathered-nil (gathered known [])
+
+-- columns and nodes that lie over one another, from the last on
+pub over-start :
+    (known : List ℕ) (E : Ref → Showing) (ts : List Ref) → known ≡ gathered known (drawings_over E (drop (length ts) ts))
+over-start known E ts =
+    sym (gathered-nil known) ∙ ap (λ l. gathered known (drawings_over E l)) (sym (drop-length ts))
+
+pub over-step :
+    (known : List ℕ) (E : Ref → Showing) (ts : List Ref) (i above : ℕ) (d : Ref) → above ≡ suc i → i < length ts
+    → gathered (gathered known (drawings_over E (drop above ts))) (drawings_in (E (get_or ts i d)))
+    ≡ gathered known (drawings_over E (drop i ts))
+over-step known E ts i above d next lt =
+    sym (gathered-append known (drawings_over E (drop above ts)) (drawings_in (E (get_or ts i d))))
+    ∙ ap (λ m. gathered known (drawings_over E (drop m ts) ++ drawings_in (E (get_or ts i d)))) next
+    ∙ sym (ap (λ us. gathered known (drawings_over E us)) (drop-cons ts i d lt))
+
+-- what is remembered stays sound
+pub sound-note :
+    (s : SceneRecord) (found : Found) (g : Gathered) → IsSound s found
+    → g.drawings.keys ≡ found.gathered.drawings.keys → AreWhole s g.drawings.keys g.whole.keys
+    → IsSound s (record { known = found.known; gathered = g })
+sound-note s found g sound same whole =
+    record {
+      right = sound.right;
+      whole = whole;
+      below = subst (All (λ d. d < length (files_of s.levels))) (sym same) sound.below;
+    }
+
+pub sound-add :
+    (s : SceneRecord) (found : Found) (g : Gathered) (d : ℕ) → IsSound s found → d < length (files_of s.levels)
+    → g.drawings.keys ≡ with_one found.gathered.drawings.keys d → g.whole.keys ≡ found.gathered.whole.keys
+    → IsSound s (record { known = found.known; gathered = g })
+sound-add s found g d sound there added same =
+    let old = found.gathered.drawings.keys in
+    let P : ℕ → Type 0 = λ d. d < length (files_of s.levels) in
+    record {
+      right = sound.right;
+      whole =
+          subst (λ (l : List ℕ). AreWhole s l g.whole.keys) (sym added)
+          (subst (AreWhole s (with_one old d)) (sym same)
+          (λ i p lt j e below. keeps _ (sound.whole i p lt j e below)));
+      below =
+          subst (All P) (sym added)
+          (by_test (All P) (is_listed old d) old (old ++ d ∷ []) (λ listed. sound.below) (λ new. All-push P old d sound.below there));
+    }
+  where
+    keeps : (x : ℕ) → Contains found.gathered.drawings.keys x → Contains (with_one found.gathered.drawings.keys d) x
+    keeps x at =
+        subst (λ (l : List ℕ). Contains l x) (gathered-one found.gathered.drawings.keys d)
+        (gathered-keeps found.gathered.drawings.keys (d ∷ []) x at)

@@ -1,0 +1,5 @@
+pub mod FreshLemmas
+pub mod Remembered
+pub mod Showings
+pub mod Ways
+pub mod GatherLemmas

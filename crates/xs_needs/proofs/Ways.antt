@@ -1,0 +1,158 @@
+-- Where every way through a scene ends, so do the ways from spot to spot
+use Rattle.std.proofs.Common.{◌≡◌, ◌≤◌, ◌+◌, ◌-◌, ◌*◌, ℕ, zero, suc, Option, Some, None, List, length, find, slice_get, All, IfSome, sym, subst, ⊎_elim, arith}
+use Rattle.std.specs.Option.{option_map_or}
+use Rattle.std.proofs.lemmas.Bool.{cases_lt}
+use Rattle.std.proofs.lemmas.Option.{slice_get_past}
+use Rattle.xs_scene.specs.declared.column.Shown.{Shown}
+use Rattle.xs_scene.specs.declared.column.Shown.TheVariants.{Drawing as ShowsDrawing, Sheet}
+use Rattle.xs_scene.specs.declared.seen.Seen.{Seen}
+use Rattle.xs_scene.specs.declared.seen.Seen.TheVariants.{Empty, Drawing as SeenDrawing, Row as SeenRow}
+use Rattle.xs_scene.specs.declared.node.Ref.{Ref}
+use Rattle.xs_scene.specs.declared.node.Ref.TheVariants.{Column as ToColumn, Node as ToNode}
+use Rattle.xs_scene.specs.declared.node.Node.{Node}
+use Rattle.xs_scene.specs.declared.node.Node.TheVariants.{Pair as PairNode, Card, Shuffle, Blur, Keep, Delete}
+use Rattle.xs_scene.specs.Records.{SceneRecord, ColumnRecord, ExposureRecord, LevelRecord}
+use Rattle.xs_meaning.specs.Cells.{cell_at, covers, shown_after}
+use Rattle.xs_meaning.specs.Ends.{AllEnd, InputsHave, NodesEnd, ShownHas, SheetsEnd}
+use Rattle.xs_meaning.specs.Palettes.{is_clear_pixel, pixel_of}
+use Rattle.xs_meaning.specs.Walk.{sheet_at, column_at, no_column}
+use Rattle.xs_meaning.proofs.Depth.{find-has}
+use Rattle.xs_meaning.proofs.Lists.{by_test, All-slice_index_or}
+use Rattle.xs_needs.specs.declared.spot.At.TheVariants.{Row, Column, Node as NodeAt}
+use Rattle.xs_needs.specs.declared.spot.Spot.{Spot}
+use Rattle.xs_needs.specs.declared.rule.Rule.TheVariants.{Clear, Pixel}
+use Rattle.xs_needs.specs.Rules.{spot, input_spot, rule_of, rule_of_seen, rule_of_listed, rule_of_node, LeadsTo, WaysEnd}
+
+-- P holds of the sheet whose row is seen
+abbrev SeenHas : (ℕ → Type 0) → Seen → Type 0
+SeenHas P Empty = Unit {0}
+SeenHas P (SeenDrawing level index) = Unit {0}
+SeenHas P (SeenRow sheet row) = P sheet
+
+cell_at-has :
+    (P : ℕ → Type 0) (column : ColumnRecord) (row : ℕ)
+    → All (λ e. ShownHas P e.shown) column.cells → SeenHas P (cell_at column row)
+unfolding cell_at
+cell_at-has P column row all =
+    found (find (covers row) column.cells) (find-has (λ e. ShownHas P e.shown) (covers row) column.cells all)
+  where
+    shows : (rows : ℕ) (shown : Shown) → ShownHas P shown → SeenHas P (shown_after rows shown)
+    shows rows (ShowsDrawing level index) has = tt
+    shows rows (Sheet sheet start) has = has
+
+    found : (e : Option ExposureRecord) → IfSome e (λ e. ShownHas P e.shown)
+        → SeenHas P (option_map_or (λ e. shown_after (row - e.from) e.shown) e Empty)
+    found None has = tt
+    found (Some e) has = shows (row - e.from) e.shown has
+
+seen-leads :
+    (P : Spot → Type 0) (Q : ℕ → Type 0) (levels : List LevelRecord) (k row : ℕ)
+    → ((j inner : ℕ) → Q j → P (spot j Row inner))
+    → (seen : Seen) → SeenHas Q seen → LeadsTo P k row (rule_of_seen levels seen)
+seen-leads P Q levels k row leads Empty has = tt
+seen-leads P Q levels k row leads (SeenDrawing level index) has = tt
+seen-leads P Q levels k row leads (SeenRow sheet inner) has = leads sheet inner has
+
+listed-leads :
+    (P : Spot → Type 0) (k row : ℕ) (input : Ref) → ((row : ℕ) → P (input_spot k input row))
+    → (o : Option ℕ) → LeadsTo P k row (rule_of_listed k input o)
+listed-leads P k row input each None = tt
+listed-leads P k row input each (Some listed) = each listed
+
+node-leads :
+    (P : Spot → Type 0) (Q : Ref → Type 0) (k row : ℕ) → ((t : Ref) (row : ℕ) → Q t → P (input_spot k t row))
+    → (node : Option Node) → InputsHave Q node → LeadsTo P k row (rule_of_node k row node)
+node-leads P Q k row leads None has = tt
+node-leads P Q k row leads (Some (PairNode op first second)) has = (leads first row has.0, leads second row has.1)
+node-leads P Q k row leads (Some (Card style)) has =
+    by_test (LeadsTo P k row) (is_clear_pixel (pixel_of style)) Clear Pixel (λ passes. tt) (λ fails. tt)
+node-leads P Q k row leads (Some (Shuffle input list)) has =
+    listed-leads P k row input (λ r. leads input r has) (slice_get list (row - 1))
+node-leads P Q k row leads (Some (Blur input radius)) has = leads input row has
+node-leads P Q k row leads (Some (Keep input styles)) has = leads input row has
+node-leads P Q k row leads (Some (Delete input styles)) has = leads input row has
+
+-- the ways from each row of a sheet end, in so many steps or more
+abbrev RowsEnd : SceneRecord → ℕ → ℕ → Type 0
+RowsEnd s least j = (inner n : ℕ) → least ≤ n → WaysEnd s n (spot j Row inner)
+
+column-ends :
+    (s : SceneRecord) (d least k c : ℕ) → ((j : ℕ) → SheetsEnd s.sheets d j → RowsEnd s least j)
+    → SheetsEnd s.sheets (suc d) k
+    → (row n : ℕ) → least + 1 ≤ n → WaysEnd s n (spot k (Column c) row)
+unfolding WaysEnd SheetsEnd rule_of
+column-ends s d least k c below ends row zero le = absurd (omega arith)
+column-ends s d least k c below ends row (suc n) le =
+    seen-leads (WaysEnd s n) (SheetsEnd s.sheets d) s.levels k row (λ j inner has. below j has inner n (omega arith))
+    (cell_at (column_at (sheet_at s.sheets k) c) row)
+    (cell_at-has (SheetsEnd s.sheets d) (column_at (sheet_at s.sheets k) c) row
+    (All-slice_index_or (λ column. All (λ e. ShownHas (SheetsEnd s.sheets d) e.shown) column.cells)
+    (sheet_at s.sheets k).columns c no_column (λ i e lt. absurd (omega arith)) ends))
+
+input-ends :
+    (s : SceneRecord) (least k : ℕ)
+    → ((c row n : ℕ) → least + 1 ≤ n → WaysEnd s n (spot k (Column c) row))
+    → (m : ℕ) (t : Ref) → NodesEnd (sheet_at s.sheets k) m t
+    → (row n : ℕ) → least + 1 + m ≤ n → WaysEnd s n (input_spot k t row)
+unfolding WaysEnd NodesEnd rule_of
+input-ends s least k columns m (ToColumn c) ends row n le = columns c row n (omega arith)
+input-ends s least k columns zero (ToNode i) ends row n le = absurd ends
+input-ends s least k columns (suc m) (ToNode i) ends row zero le = absurd (omega arith)
+input-ends s least k columns (suc m) (ToNode i) ends row (suc n) le =
+    node-leads (WaysEnd s n) (NodesEnd (sheet_at s.sheets k) m) k row
+    (λ t r has. input-ends s least k columns m t has r n (omega arith))
+    (slice_get (sheet_at s.sheets k).nodes i) ends
+
+-- a node that the sheet lacks leads nowhere
+absent-ends :
+    (s : SceneRecord) (k i row n : ℕ) → length (sheet_at s.sheets k).nodes ≤ i → 1 ≤ n
+    → WaysEnd s n (spot k (NodeAt i) row)
+unfolding WaysEnd rule_of
+absent-ends s k i row zero past le = absurd (omega arith)
+absent-ends s k i row (suc n) past le =
+    subst (λ (node : Option Node). LeadsTo (WaysEnd s n) k row (rule_of_node k row node))
+    (sym (slice_get_past (sheet_at s.sheets k).nodes i past)) tt
+
+terminal-ends :
+    (s : SceneRecord) → AllEnd s.sheets → (least k : ℕ)
+    → ((c row n : ℕ) → least + 1 ≤ n → WaysEnd s n (spot k (Column c) row))
+    → (t : Ref) (row n : ℕ) → least + 1 + length (sheet_at s.sheets k).nodes ≤ n → WaysEnd s n (input_spot k t row)
+terminal-ends s ends least k columns (ToColumn c) row n le = columns c row n (omega arith)
+terminal-ends s ends least k columns (ToNode i) row n le =
+    ⊎_elim
+    (λ there.
+    input-ends s least k columns (length (sheet_at s.sheets k).nodes) (ToNode i) (ends.nodes k i there) row n le)
+    (λ past. absent-ends s k i row n past (omega arith))
+    (cases_lt i (length (sheet_at s.sheets k).nodes))
+
+rows-end :
+    (s : SceneRecord) → AllEnd s.sheets → ((k : ℕ) → length (sheet_at s.sheets k).nodes ≤ 256)
+    → (d k : ℕ) → SheetsEnd s.sheets d k → RowsEnd s (d * 258) k
+unfolding WaysEnd SheetsEnd rule_of
+rows-end s ends few zero k sheets inner n le = absurd sheets
+rows-end s ends few (suc d) k sheets inner zero le = absurd (omega arith)
+rows-end s ends few (suc d) k sheets inner (suc n) le =
+    λ i t lt.
+    terminal-ends s ends (d * 258) k
+    (λ c row n le. column-ends s d (d * 258) k c (rows-end s ends few d) sheets row n le)
+    _ inner n (omega (arith, few k))
+
+-- 16 nested sheets of at most 256 nodes
+pub row-ends :
+    (s : SceneRecord) → AllEnd s.sheets → ((k : ℕ) → length (sheet_at s.sheets k).nodes ≤ 256)
+    → (k row : ℕ) → WaysEnd s 4128 (spot k Row row)
+row-ends s ends few k row = rows-end s ends few 16 k (ends.sheets_end k) row 4128 (omega arith)
+
+-- ---- one step
+
+pub WaysEnd-positive : (s : SceneRecord) (n : ℕ) (p : Spot) → WaysEnd s n p → 1 ≤ n
+unfolding WaysEnd
+WaysEnd-positive s zero p ends = absurd ends
+WaysEnd-positive s (suc n) p ends = omega arith
+
+pub WaysEnd-step :
+    (s : SceneRecord) (n : ℕ) (p : Spot) → WaysEnd s n p → LeadsTo (WaysEnd s (n - 1)) p.sheet p.row (rule_of s p)
+unfolding WaysEnd
+WaysEnd-step s zero p ends = absurd ends
+WaysEnd-step s (suc n) p ends =
+    subst (λ (m : ℕ). LeadsTo (WaysEnd s m) p.sheet p.row (rule_of s p)) (let e : n ≡ suc n - 1 = omega arith in e) ends

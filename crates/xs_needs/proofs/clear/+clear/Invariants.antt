@@ -1,0 +1,23 @@
+use Rattle.std.proofs.Common.{◌≡◌, ◌+◌, ◌*◌, true, take}
+use Rattle.std.specs.List.{list_all}
+use Rattle.xs_needs.specs.Found.{AreRight}
+use Rattle.xs_needs.specs.Rules.{is_clear_at, input_spot}
+use Rattle.xs_needs.proofs.clear.+clear.Given as goal
+
+abbrev pub decreases-is_clear : goal.decreases-is_clear
+decreases-is_clear l = 3 * l.left + 1
+
+abbrev pub decreases-is_clear_by : goal.decreases-is_clear_by
+decreases-is_clear_by l = 3 * l.left
+
+abbrev pub decreases-are_clear : goal.decreases-are_clear
+decreases-are_clear l = 3 * l.left + 2
+
+abbrev pub invariant-are_clear-loop-terminal : goal.invariant-are_clear-loop-terminal
+invariant-are_clear-loop-terminal l =
+    record {
+      known : AreRight l.s l.known.flags.entries;
+      clear :
+          list_all (λ t. is_clear_at l.s (input_spot l.spot.sheet t l.spot.row)) (take l.terminal-index l.terminals)
+          ≡ true;
+    }

@@ -1,0 +1,34 @@
+use Rattle.std.proofs.Common.{◌≡◌, ◌≤◌, ◌+◌, ◌*◌, drop, length}
+use Rattle.xs_needs.specs.Found.{IsSound}
+use Rattle.xs_needs.specs.Fresh.{gathered}
+use Rattle.xs_needs.specs.Rules.{drawings_over, shown, input_spot}
+use Rattle.xs_needs.proofs.gather.+gather.Given as goal
+
+abbrev pub decreases-gather : goal.decreases-gather
+decreases-gather l = 4 * l.left + 1
+
+abbrev pub decreases-gather_by : goal.decreases-gather_by
+decreases-gather_by l = 4 * l.left
+
+abbrev pub decreases-gather_if : goal.decreases-gather_if
+decreases-gather_if l = 4 * l.left + 2
+
+abbrev pub decreases-gather_pair : goal.decreases-gather_pair
+decreases-gather_pair l = 4 * l.left + 3
+
+abbrev pub decreases-gather_over : goal.decreases-gather_over
+decreases-gather_over l = 4 * l.left + 2
+
+abbrev pub decreases-gather_over-loop-below : goal.decreases-gather_over-loop-below
+decreases-gather_over-loop-below l = l.below
+
+abbrev pub invariant-gather_over-loop-below : goal.invariant-gather_over-loop-below
+invariant-gather_over-loop-below l =
+    record {
+      inside : l.below ≤ length l.terminals;
+      sound : IsSound l.s l.found;
+      drawings :
+          l.found.gathered.drawings.keys
+          ≡ gathered l.fn.found.gathered.drawings.keys
+          (drawings_over (λ t. shown l.s (input_spot l.spot.sheet t l.spot.row)) (drop l.below l.terminals));
+    }

@@ -1,0 +1,13 @@
+use Rattle.xs_needs.proofs.FreshLemmas.{fresh-append, fresh-each_once, fresh-known, Contains-fresh, fresh-has, each_once-once}
+use Rattle.xs_needs.proofs.laws.each_number_is_taken_once.Goals as goal
+
+pub returns : goal.returns
+returns c =
+    record {
+      one_after_another = fresh-append;
+      once_is_enough = fresh-each_once;
+      nothing_new = fresh-known;
+      members = Contains-fresh;
+      found = fresh-has;
+      once = each_once-once;
+    }

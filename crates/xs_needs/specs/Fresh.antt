@@ -1,0 +1,20 @@
+use Rattle.std.specs.Prelude.{ℕ, List, [], ◌∷◌, ◌++◌, if◌then◌else◌}
+use Rattle.xs_meaning.specs.Palettes.{is_listed}
+
+-- the numbers of a list that are not among some known ones, each at its first place
+unfoldable pub fresh : List ℕ → List ℕ → List ℕ
+fresh known [] = []
+fresh known (d ∷ ds) =
+    if is_listed known d then fresh known ds else d ∷ fresh (known ++ d ∷ []) ds
+
+abbrev pub each_once : List ℕ → List ℕ
+each_once xs = fresh [] xs
+
+-- known numbers, and one more if it is new
+abbrev pub with_one : List ℕ → ℕ → List ℕ
+with_one known d = if is_listed known d then known else known ++ d ∷ []
+
+-- known numbers, and those of a list that are new
+unfoldable pub gathered : List ℕ → List ℕ → List ℕ
+gathered known [] = known
+gathered known (d ∷ ds) = gathered (with_one known d) ds

@@ -1,0 +1,4 @@
+pub mod Fresh
+pub mod Shown
+pub mod Rules
+pub mod Found

@@ -1,0 +1,115 @@
+//! What is remembered while the drawings of a row are gathered.
+
+ghost use Rattle.std.specs.Prelude.{◌≡◌, ℕ, true, [], All, IfSome, IfOk, OnOk, Contains};
+ghost use Rattle.xs_scene.specs.Records.{SceneRecord};
+ghost use Rattle.xs_needs.specs.Fresh.{with_one};
+ghost use Rattle.xs_needs.specs.Rules.{drawings_at, is_clear_at};
+ghost use Rattle.xs_needs.specs.Found.{AreRight, AreWhole};
+
+use crate::spot::Spot;
+use indexmap::{IndexMap, IndexSet};
+use std::alloc::Global;
+use xs_pixel::Memory;
+
+/// Which spots are clear, of those that were asked.
+#[derive(Drop)]
+pub struct Known {
+    pub(crate) flags: IndexMap<Spot, bool>,
+}
+
+impl Known {
+    /// Nothing was asked yet.
+    pub fn new(alloc: Global) -> Known
+        ensures { (s : SceneRecord) → AreRight s result.flags.entries }
+    {
+        Known {
+            flags: IndexMap::new(alloc),
+        }
+    }
+
+    /// Whether a spot is clear, if it was asked.
+    pub fn find(&self, spot: Spot) -> Option<bool>
+        ensures { (s : SceneRecord) → AreRight s self.now.flags.entries
+            → IfSome result (λ clear. clear ≡ is_clear_at s spot) }
+    {
+        self.flags.get(&spot).copied()
+    }
+
+    /// Remembers whether a spot is clear.
+    pub fn note(&mut self, spot: Spot, clear: bool) -> Result<(), Memory>
+        ensures { OnOk result ((s : SceneRecord) → AreRight s self.old.flags.entries
+            → clear ≡ is_clear_at s spot → AreRight s self.new.flags.entries) }
+    {
+        match self.flags.insert(spot, clear) {
+            Ok(_) => Ok(()),
+            Err(_) => Err(Memory),
+        }
+    }
+}
+
+/// The drawings so far, and the spots whose drawings are all among them.
+#[derive(Drop)]
+pub struct Gathered {
+    pub(crate) drawings: IndexSet<u32>,
+    pub(crate) whole: IndexSet<Spot>,
+}
+
+impl Gathered {
+    /// Nothing was gathered yet.
+    pub fn new(alloc: Global) -> Gathered
+        ensures drawings { result.drawings.keys ≡ [] }
+        ensures whole { result.whole.keys ≡ [] }
+    {
+        Gathered {
+            drawings: IndexSet::new(alloc),
+            whole: IndexSet::new(alloc),
+        }
+    }
+
+    /// Whether all drawings of a spot are known to be gathered.
+    pub fn has_all_of(&self, spot: Spot) -> bool
+        ensures { (s : SceneRecord) → AreWhole s self.now.drawings.keys self.now.whole.keys
+            → result ≡ true → All (Contains self.now.drawings.keys) (drawings_at s spot) }
+    {
+        self.whole.contains(&spot)
+    }
+
+    /// Puts a drawing last, unless it is there.
+    pub fn add(&mut self, drawing: u32) -> Result<(), Memory>
+        ensures drawings { OnOk result (self.new.drawings.keys ≡ with_one self.old.drawings.keys drawing) }
+        ensures whole { OnOk result (self.new.whole.keys ≡ self.old.whole.keys) }
+    {
+        match self.drawings.insert(drawing) {
+            Ok(_) => Ok(()),
+            Err(_) => Err(Memory),
+        }
+    }
+
+    /// Remembers that all drawings of a spot are gathered.
+    pub fn note(&mut self, spot: Spot) -> Result<(), Memory>
+        ensures drawings { OnOk result (self.new.drawings.keys ≡ self.old.drawings.keys) }
+        ensures whole { OnOk result ((s : SceneRecord)
+            → AreWhole s self.old.drawings.keys self.old.whole.keys
+            → All (Contains self.old.drawings.keys) (drawings_at s spot)
+            → AreWhole s self.new.drawings.keys self.new.whole.keys) }
+    {
+        match self.whole.insert(spot) {
+            Ok(_) => Ok(()),
+            Err(_) => Err(Memory),
+        }
+    }
+
+    /// The drawings.
+    pub fn into_drawings(self, alloc: Global) -> Result<Vec<u32>, Memory>
+        ensures { IfOk result (λ v. v.items ≡ self.drawings.keys) }
+    {
+        Ok(Vec::from_slice(alloc, self.drawings.as_slice())?)
+    }
+}
+
+/// All that is remembered.
+#[derive(Drop)]
+pub struct Found {
+    pub known: Known,
+    pub gathered: Gathered,
+}

@@ -1,0 +1,159 @@
+//! The drawings of a spot, gathered in the order of the walk. Each spot is gone through once.
+
+ghost use Rattle.std.specs.Prelude.{◌≡◌, ◌≤◌, ◌<◌, ◌-◌, [], All, OnOk, length, if◌then◌else◌};
+ghost use Rattle.xs_meaning.specs.Ends.{AllEnd};
+ghost use Rattle.xs_meaning.specs.Expressions.{staying as staying_of};
+ghost use Rattle.xs_needs.specs.Found.{IsSound};
+ghost use Rattle.xs_needs.specs.Fresh.{gathered};
+ghost use Rattle.xs_needs.specs.Rules.{AreThere, LeadsTo, WaysEnd, drawings_at, is_clear_at, drawings_over, shown, showing_by, input_spot};
+ghost use Rattle.xs_needs.specs.Shown.{drawings_in, showing_staying};
+
+use crate::clear::is_clear;
+use crate::found::Found;
+use crate::pairs::staying;
+use crate::rule::{Rule, rule_at};
+use crate::spot::{Spot, input};
+use std::alloc::Global;
+use xs_check::GoodScene;
+use xs_pixel::{Memory, Op};
+use xs_scene::Ref;
+
+/// Gathers the drawings of a spot. The ways from it have at most `left` spots.
+#[cycle(gather)]
+pub fn gather(
+    alloc: Global,
+    s: &GoodScene,
+    left: u32,
+    spot: Spot,
+    found: &mut Found,
+) -> Result<(), Memory>
+    requires all_end { AllEnd s.now.sheets }
+    requires there { spot.sheet < length s.now.sheets }
+    requires ends { WaysEnd s.now left spot }
+    requires sound { IsSound s.now found.old }
+    ensures drawings { OnOk result (found.new.gathered.drawings.keys
+        ≡ gathered found.old.gathered.drawings.keys (drawings_at s.now spot)) }
+    ensures sound { OnOk result (IsSound s.now found.new) }
+{
+    if found.gathered.has_all_of(spot) {
+        return Ok(());
+    }
+    let rule = rule_at(alloc, s, spot)?;
+    gather_by(alloc, s, left, spot, &rule, found)?;
+    found.gathered.note(spot)
+}
+
+/// Gathers the drawings of a spot, by its rule.
+#[cycle(gather)]
+fn gather_by(
+    alloc: Global,
+    s: &GoodScene,
+    left: u32,
+    spot: Spot,
+    rule: &Rule,
+    found: &mut Found,
+) -> Result<(), Memory>
+    requires all_end { AllEnd s.now.sheets }
+    requires there { AreThere s.now spot.sheet rule.now }
+    requires some_left { 1 ≤ left }
+    requires ends { LeadsTo (WaysEnd s.now (left - 1)) spot.sheet spot.row rule.now }
+    requires sound { IsSound s.now found.old }
+    ensures drawings { OnOk result (found.new.gathered.drawings.keys
+        ≡ gathered found.old.gathered.drawings.keys
+        (drawings_in (showing_by s.now (shown s.now) spot.sheet spot.row rule.now))) }
+    ensures sound { OnOk result (IsSound s.now found.new) }
+{
+    match rule {
+        Rule::Clear | Rule::Pixel => Ok(()),
+        Rule::Drawing(drawing) => found.gathered.add(*drawing),
+        Rule::Same(next) => gather(alloc, s, left - 1, *next, found),
+        Rule::Pair(op, first, second) => {
+            gather_pair(alloc, s, left - 1, *op, (*first, *second), found)
+        }
+        Rule::Over(terminals) => gather_over(alloc, s, left - 1, spot, terminals.items(), found),
+    }
+}
+
+/// Gathers the drawings of the inputs of a pair that stay, those of the first before those of the second.
+#[cycle(gather)]
+fn gather_pair(
+    alloc: Global,
+    s: &GoodScene,
+    left: u32,
+    op: Op,
+    inputs: (Spot, Spot),
+    found: &mut Found,
+) -> Result<(), Memory>
+    requires all_end { AllEnd s.now.sheets }
+    requires there_first { inputs.0.sheet < length s.now.sheets }
+    requires there_second { inputs.1.sheet < length s.now.sheets }
+    requires ends_first { WaysEnd s.now left inputs.0 }
+    requires ends_second { WaysEnd s.now left inputs.1 }
+    requires sound { IsSound s.now found.old }
+    ensures drawings { OnOk result (found.new.gathered.drawings.keys
+        ≡ gathered found.old.gathered.drawings.keys
+        (drawings_in (showing_staying (staying_of op (is_clear_at s.now inputs.0) (is_clear_at s.now inputs.1))
+        (shown s.now inputs.0) (shown s.now inputs.1)))) }
+    ensures sound { OnOk result (IsSound s.now found.new) }
+{
+    let (first, second) = inputs;
+    let first_clear = is_clear(alloc, s, left, first, &mut found.known)?;
+    let second_clear = is_clear(alloc, s, left, second, &mut found.known)?;
+    let (first_stays, second_stays) = staying(op, first_clear, second_clear);
+    gather_if(alloc, s, left, first_stays, first, found)?;
+    gather_if(alloc, s, left, second_stays, second, found)
+}
+
+/// Gathers the drawings of a spot that is wanted.
+#[cycle(gather)]
+fn gather_if(
+    alloc: Global,
+    s: &GoodScene,
+    left: u32,
+    wanted: bool,
+    spot: Spot,
+    found: &mut Found,
+) -> Result<(), Memory>
+    requires all_end { AllEnd s.now.sheets }
+    requires there { spot.sheet < length s.now.sheets }
+    requires ends { WaysEnd s.now left spot }
+    requires sound { IsSound s.now found.old }
+    ensures drawings { OnOk result (found.new.gathered.drawings.keys
+        ≡ gathered found.old.gathered.drawings.keys (if wanted then drawings_at s.now spot else [])) }
+    ensures sound { OnOk result (IsSound s.now found.new) }
+{
+    if wanted {
+        gather(alloc, s, left, spot, found)
+    } else {
+        Ok(())
+    }
+}
+
+/// Gathers the drawings of columns and nodes of a sheet at a row, those of the last, which is the
+/// topmost, first.
+#[cycle(gather)]
+fn gather_over(
+    alloc: Global,
+    s: &GoodScene,
+    left: u32,
+    spot: Spot,
+    terminals: &[Ref],
+    found: &mut Found,
+) -> Result<(), Memory>
+    requires all_end { AllEnd s.now.sheets }
+    requires there { spot.sheet < length s.now.sheets }
+    requires ends { All (λ t. WaysEnd s.now left (input_spot spot.sheet t spot.row)) terminals.now }
+    requires sound { IsSound s.now found.old }
+    ensures drawings { OnOk result (found.new.gathered.drawings.keys
+        ≡ gathered found.old.gathered.drawings.keys
+        (drawings_over (λ t. shown s.now (input_spot spot.sheet t spot.row)) terminals.now)) }
+    ensures sound { OnOk result (IsSound s.now found.new) }
+{
+    let mut below = terminals.len();
+    while below > 0 {
+        below -= 1;
+        let at = input(spot.sheet, terminals[below], spot.row);
+        gather(alloc, s, left, at, found)?;
+    }
+    Ok(())
+}

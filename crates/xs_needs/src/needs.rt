@@ -1,0 +1,34 @@
+ghost use Rattle.std.specs.Prelude.{◌≡◌, ◌<◌, All, IfOk, length};
+ghost use Rattle.xs_check.specs.Good.{files_of};
+ghost use Rattle.xs_meaning.specs.Expressions.{drawings_of, root_of};
+ghost use Rattle.xs_needs.specs.Fresh.{each_once};
+
+use crate::found::{Found, Gathered, Known};
+use crate::gather::gather;
+use crate::spot::{At, Spot};
+use std::alloc::Global;
+use xs_check::GoodScene;
+use xs_pixel::Memory;
+
+/// No way from spot to spot is longer: sheets are nested at most 16 deep, and in each a way has the row,
+/// at most 256 nodes and a column.
+const LONGEST_WAY: u32 = 16 * 258;
+
+/// The drawings of a row's expression, each once, in the order in which the walk meets them.
+pub fn row_drawings(alloc: Global, s: &GoodScene, row: u32) -> Result<Vec<u32>, Memory>
+    ensures value { IfOk result (λ v. v.items ≡ each_once (drawings_of (root_of s.now row))) }
+    ensures there { IfOk result (λ v. All (λ d. d < length (files_of s.now.levels)) v.items) }
+{
+    let _good = s.scene();
+    let mut found = Found {
+        known: Known::new(alloc),
+        gathered: Gathered::new(alloc),
+    };
+    let spot = Spot {
+        sheet: 0,
+        at: At::Row,
+        row,
+    };
+    gather(alloc, s, LONGEST_WAY, spot, &mut found)?;
+    found.gathered.into_drawings(alloc)
+}

@@ -1,0 +1,39 @@
+-- What reading and checking a scene leaves to do.
+use Rattle.std.proofs.Common.{◌≡◌, List, ℕ, Option, Some, None, Ok, Err, Result, refl, ap, ◌∙◌, inl, inr}
+use Rattle.xs_json.specs.declared.fault.SceneFault.{SceneFault}
+use Rattle.xs_json.specs.declared.fault.FieldFault.{FieldFault}
+use Rattle.xs_json.specs.declared.fault.FieldFault.TheVariants as field
+use Rattle.xs_json.specs.Reading.{Reading}
+use Rattle.xs_scene.specs.Records.{SceneRecord}
+use Rattle.xs_scene_json.specs.SceneText.{scene_of}
+use Rattle.xs_check.specs.Passes.{Checking}
+use Rattle.xs_json.specs.declared.code.SceneCode.TheVariants as scene_code
+use Rattle.xs_top.specs.declared.TheConstants.{SCENE_LIMIT}
+use Rattle.xs_top.specs.Trace.{Outcome, ended, Seen}
+use Rattle.xs_top.specs.Runs.{Did, Stopped}
+use Rattle.xs_top.specs.Scenes.{ReadsScene}
+use Rattle.xs_top.specs.Texts.{scene_status}
+use Rattle.xs_top.specs.Told.{Files, Verdict}
+use Rattle.xs_top.specs.Outcome.{no_scene, asking, checked, decoded, loading_scene}
+use Rattle.xs_top.proofs.Passes.{checking}
+use Rattle.xs_top.proofs.Parts.{did_nothing}
+
+module _ (verdict : Verdict) (reading : Reading SceneRecord) (next : SceneRecord → Outcome) (right : (s : SceneRecord) → reading ≡ Ok s → Checking s (verdict s)) where
+  decoded_as : (s : SceneRecord) (found : Option SceneFault) → reading ≡ Ok s → Checking s found → decoded verdict reading next ≡ checked found (next s)
+  decoded_as s found e checks =
+      rw e (ap (λ f. checked f (next s)) ((checking s).same _ _ (right s e) checks))
+
+  pub scene_read : (s : SceneRecord) → reading ≡ Ok s → Checking s None → decoded verdict reading next ≡ next s
+  scene_read s e checks = decoded_as s None e checks
+
+  fault_found : (fault : SceneFault) → ReadsScene (Err (field.Fault fault)) reading → decoded verdict reading next ≡ ended (scene_status (field.Fault fault))
+  fault_found fault (inl e) = rw e refl
+  fault_found fault (inr found) = decoded_as found.0 (Some fault) found.1 found.2
+
+  pub scene_refused : (seen : Seen) (fault : FieldFault) → ReadsScene (Err fault) reading → Stopped (decoded verdict reading next) seen seen (scene_status fault)
+  scene_refused seen (field.Fault fault) reads = rw (fault_found fault reads) (did_nothing _ _)
+  scene_refused seen field.Memory reads = (_, did_nothing _ _)
+
+pub scene_asked : (files : Files) (verdict : Verdict) (name : List ℕ) (next : SceneRecord → Outcome) → loading_scene files verdict name next ≡ asking files name SCENE_LIMIT (no_scene scene_code.NoScene) (no_scene scene_code.TooLong) (λ bytes. decoded verdict (scene_of bytes) next)
+unfolding loading_scene
+scene_asked files verdict name next = refl

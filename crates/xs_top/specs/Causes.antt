@@ -1,0 +1,24 @@
+use Rattle.std.specs.Prelude.{◌≡◌, Bool, true, false}
+use Rattle.xs_json.specs.declared.code.SceneCode.{SceneCode}
+use Rattle.xs_json.specs.declared.code.SceneCode.TheVariants as scene
+use Rattle.xs_rawfile.specs.declared.fault.LevelCode.{LevelCode}
+use Rattle.xs_rawfile.specs.declared.fault.LevelCode.TheVariants as level
+use Rattle.xs_top.specs.declared.status.Status.{Status}
+use Rattle.xs_top.specs.declared.status.Status.TheVariants as answers
+
+-- the codes of a file that is not there or too long
+abbrev pub is_lost_scene : SceneCode → Bool
+is_lost_scene scene.NoScene = true
+is_lost_scene scene.TooLong = true
+is_lost_scene code = false
+
+abbrev pub is_lost_level : LevelCode → Bool
+is_lost_level level.Absent = true
+is_lost_level level.TooLong = true
+is_lost_level code = false
+
+-- an answer that a file is not there or too long
+abbrev pub is_lost : Status → Bool
+is_lost (answers.Scene fault) = is_lost_scene fault.code
+is_lost (answers.Level drawing code) = is_lost_level code
+is_lost status = false

@@ -1,0 +1,23 @@
+use Rattle.std.specs.Prelude.{ℕ, ◌+◌, ◌-◌, ◌*◌, ◌/◌, min, List, map, flat_map}
+use Rattle.std.specs.List.{range_with_len}
+
+-- the rows from the first to the last
+abbrev pub rows_of : ℕ → ℕ → List ℕ
+rows_of from to = range_with_len from (to + 1 - from)
+
+-- the rows of a section, counted from 0: eight rows, and in the last section those that are left
+abbrev pub section_rows : ℕ → ℕ → ℕ → List ℕ
+section_rows from to section =
+    range_with_len (from + 8 * section) (min (to + 1 - (from + 8 * section)) 8)
+
+-- how many sections there are
+abbrev pub sections_in : ℕ → ℕ → ℕ
+sections_in from to = (to - from) / 8 + 1
+
+-- the sections of a range of rows
+unfoldable pub sections_of : ℕ → ℕ → List (List ℕ)
+sections_of from to = map (section_rows from to) (range_with_len 0 (sections_in from to))
+
+-- the rows of the first sections
+abbrev pub rows_before : ℕ → ℕ → ℕ → List ℕ
+rows_before from to sections = flat_map (section_rows from to) (range_with_len 0 sections)

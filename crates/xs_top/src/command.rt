@@ -1,0 +1,193 @@
+ghost use Rattle.std.specs.Prelude.{◌≡◌, ◌≤◌, ◌⊎◌, Some, IfOk, IsErrOf, map, string_bytes};
+ghost use Rattle.xs_outside.specs.Told.{Rose, more};
+ghost use Rattle.xs_words.specs.Commands.{IsCommand};
+ghost use Rattle.xs_top.specs.Trace.{Seen, puts, ended, with_asked, with_notes};
+ghost use Rattle.xs_top.specs.Runs.{Runs, IsRun};
+ghost use Rattle.xs_top.specs.Told.{Files, Verdict, IsVerdict};
+ghost use Rattle.xs_top.specs.Outcome.{rendered_line, rendering, showing, commanding, outcome};
+
+use crate::render::render_rows;
+use crate::scene::load_scene;
+use crate::status::{Status, status_of};
+use crate::steps::note;
+use std::alloc::Global;
+use std::marker::Brand;
+use xs_outside::{Library, Notes, Shelf};
+use xs_pixel::Memory;
+use xs_scene::Name;
+use xs_scene_json::encode;
+use xs_words::{Command, read_words};
+
+/// The line at the end of so many rows.
+fn rendered_line(alloc: Global, rows: u32) -> Result<String, Memory>
+    ensures { IfOk result (λ line. string_bytes line ≡ rendered_line rows) }
+{
+    Ok(format!(in alloc; "rendered {rows} rows")?)
+}
+
+/// Renders rows `from` to `to` of a scene.
+fn render<L: Library, S: Shelf, T: Notes>(
+    alloc: Global,
+    scene: &Name,
+    from: u32,
+    to: u32,
+    base: &Name,
+    lib: &mut L,
+    shelf: &mut S,
+    notes: &mut T,
+) -> Result<(), Status>
+    requires range { from ≤ to }
+    requires last { to ≤ 9999 }
+    ensures told { (files : Files) → L.files lib.old ≡ Some files → (verdict : Verdict) → IsVerdict files verdict
+        → Runs (rendering files verdict scene.now from to base.now) (λ _. ended Status.Ok)
+        (record { asked = L.asked lib.old; shelf = S.objects shelf.old; notes = T.written notes.old })
+        (record { asked = L.asked lib.new; shelf = S.objects shelf.new; notes = T.written notes.new }) result }
+    ensures read { IsErrOf result Status.ReadFault → Rose (L.faults lib.old) (L.faults lib.new) }
+    ensures write { IsErrOf result Status.WriteFault
+        → Rose (S.faults shelf.old) (S.faults shelf.new) ⊎ Rose (T.faults notes.old) (T.faults notes.new) }
+    ensures placed { (files : Files) → L.files lib.old ≡ Some files → (verdict : Verdict) → IsVerdict files verdict
+        → IsErrOf result Status.WriteFault
+        → (S.objects shelf.new ≡ more (S.objects shelf.old) (puts (rendering files verdict scene.now from to base.now).work))
+        ⊎ Rose (S.faults shelf.old) (S.faults shelf.new) }
+{
+    let good = load_scene(alloc, lib, scene)?;
+    render_rows::<Brand, L, S>(alloc, &good, from, to, base, lib, shelf)?;
+    let line = rendered_line(alloc, to + 1 - from)?;
+    note(alloc, notes, line.as_bytes())?;
+    Ok(())
+}
+
+/// Writes the one text of a scene in format 2.
+fn show<L: Library, T: Notes>(
+    alloc: Global,
+    scene: &Name,
+    lib: &mut L,
+    notes: &mut T,
+) -> Result<(), Status>
+    ensures told { (files : Files) → L.files lib.old ≡ Some files → (verdict : Verdict) → IsVerdict files verdict
+        → (seen : Seen) → Runs (showing files verdict scene.now) (λ _. ended Status.Ok)
+        (with_notes (with_asked seen (L.asked lib.old)) (T.written notes.old))
+        (with_notes (with_asked seen (L.asked lib.new)) (T.written notes.new)) result }
+    ensures read { IsErrOf result Status.ReadFault → Rose (L.faults lib.old) (L.faults lib.new) }
+    ensures write { IsErrOf result Status.WriteFault → Rose (T.faults notes.old) (T.faults notes.new) }
+{
+    let good = load_scene(alloc, lib, scene)?;
+    let line = encode(alloc, &good.into_scene().migrated())?;
+    note(alloc, notes, line.as_slice())?;
+    Ok(())
+}
+
+/// Carries out a command.
+fn obey<L: Library, S: Shelf, T: Notes>(
+    alloc: Global,
+    command: &Command,
+    lib: &mut L,
+    shelf: &mut S,
+    notes: &mut T,
+) -> Result<(), Status>
+    requires { IsCommand command.now }
+    ensures told { (files : Files) → L.files lib.old ≡ Some files → (verdict : Verdict) → IsVerdict files verdict
+        → Runs (commanding files verdict command.now) (λ _. ended Status.Ok)
+        (record { asked = L.asked lib.old; shelf = S.objects shelf.old; notes = T.written notes.old })
+        (record { asked = L.asked lib.new; shelf = S.objects shelf.new; notes = T.written notes.new }) result }
+    ensures read { IsErrOf result Status.ReadFault → Rose (L.faults lib.old) (L.faults lib.new) }
+    ensures write { IsErrOf result Status.WriteFault
+        → Rose (S.faults shelf.old) (S.faults shelf.new) ⊎ Rose (T.faults notes.old) (T.faults notes.new) }
+    ensures placed { (files : Files) → L.files lib.old ≡ Some files → (verdict : Verdict) → IsVerdict files verdict
+        → IsErrOf result Status.WriteFault
+        → (S.objects shelf.new ≡ more (S.objects shelf.old) (puts (commanding files verdict command.now).work))
+        ⊎ Rose (S.faults shelf.old) (S.faults shelf.new) }
+{
+    match command {
+        Command::Render {
+            scene,
+            from,
+            to,
+            workers: _,
+            base,
+        } => {
+            render(alloc, scene, *from, *to, base, lib, shelf, notes)?;
+            Ok(())
+        }
+        Command::Show { scene } => {
+            show(alloc, scene, lib, notes)?;
+            Ok(())
+        }
+        Command::Dry { .. } => Err(Status::NotYet),
+        Command::Make { .. } => Err(Status::NotYet),
+        Command::Again { .. } => Err(Status::NotYet),
+    }
+}
+
+/// The command that the words say.
+fn command_of(alloc: Global, words: &Vec<String>) -> Result<Command, Status>
+    ensures told { (files : Files) (verdict : Verdict) (seen : Seen) →
+        Runs (outcome files verdict (map string_bytes words.now.items)) (commanding files verdict) seen seen result }
+    ensures command { IfOk result (λ command. (files : Files) (verdict : Verdict)
+        → outcome files verdict (map string_bytes words.now.items) ≡ commanding files verdict command) }
+    ensures range { IfOk result IsCommand }
+    ensures read { IsErrOf result Status.ReadFault → ⊥ }
+    ensures write { IsErrOf result Status.WriteFault → ⊥ }
+{
+    match read_words(alloc, words.as_slice()) {
+        Ok(command) => Ok(command),
+        Err(fault) => Err(status_of(fault)),
+    }
+}
+
+/// Reads the words and carries out their command.
+fn try_run<L: Library, S: Shelf, T: Notes>(
+    alloc: Global,
+    words: &Vec<String>,
+    lib: &mut L,
+    shelf: &mut S,
+    notes: &mut T,
+) -> Result<(), Status>
+    ensures told { (files : Files) → L.files lib.old ≡ Some files → (verdict : Verdict) → IsVerdict files verdict
+        → Runs (outcome files verdict (map string_bytes words.now.items)) (λ _. ended Status.Ok)
+        (record { asked = L.asked lib.old; shelf = S.objects shelf.old; notes = T.written notes.old })
+        (record { asked = L.asked lib.new; shelf = S.objects shelf.new; notes = T.written notes.new }) result }
+    ensures read { IsErrOf result Status.ReadFault → Rose (L.faults lib.old) (L.faults lib.new) }
+    ensures write { IsErrOf result Status.WriteFault
+        → Rose (S.faults shelf.old) (S.faults shelf.new) ⊎ Rose (T.faults notes.old) (T.faults notes.new) }
+    ensures placed { (files : Files) → L.files lib.old ≡ Some files → (verdict : Verdict) → IsVerdict files verdict
+        → IsErrOf result Status.WriteFault
+        → (S.objects shelf.new ≡ more (S.objects shelf.old) (puts (outcome files verdict (map string_bytes words.now.items)).work))
+        ⊎ Rose (S.faults shelf.old) (S.faults shelf.new) }
+{
+    let command = command_of(alloc, words)?;
+    obey(alloc, &command, lib, shelf, notes)?;
+    Ok(())
+}
+
+/// Carries out the command that the words say, over this outside. Where the library tells its files, the
+/// answer, the names asked, the shelf and the notes are those of the outcome; a fault of the outside or
+/// want of memory leaves a front part of them.
+pub fn run<L: Library, S: Shelf, T: Notes>(
+    alloc: Global,
+    words: &Vec<String>,
+    lib: &mut L,
+    shelf: &mut S,
+    notes: &mut T,
+) -> Status
+    ensures told { (files : Files) → L.files lib.old ≡ Some files → (verdict : Verdict) → IsVerdict files verdict
+        → IsRun (outcome files verdict (map string_bytes words.now.items))
+        (record { asked = L.asked lib.old; shelf = S.objects shelf.old; notes = T.written notes.old })
+        (record { asked = L.asked lib.new; shelf = S.objects shelf.new; notes = T.written notes.new }) result }
+
+    // A fault is told only where the count of its object rose.
+    ensures read { result ≡ Status.ReadFault → Rose (L.faults lib.old) (L.faults lib.new) }
+    ensures write { result ≡ Status.WriteFault
+        → Rose (S.faults shelf.old) (S.faults shelf.new) ⊎ Rose (T.faults notes.old) (T.faults notes.new) }
+
+    // After a fault of writing that is not the shelf's, each frame stands on the shelf.
+    ensures placed { (files : Files) → L.files lib.old ≡ Some files → (verdict : Verdict) → IsVerdict files verdict
+        → result ≡ Status.WriteFault
+        → (S.objects shelf.new ≡ more (S.objects shelf.old) (puts (outcome files verdict (map string_bytes words.now.items)).work))
+        ⊎ Rose (S.faults shelf.old) (S.faults shelf.new) }
+{
+    match try_run(alloc, words, lib, shelf, notes) {
+        Ok(()) => Status::Ok,
+        Err(status) => status,
+    }
+}

@@ -1,0 +1,70 @@
+ghost use Rattle.std.specs.Prelude.{◌≡◌, ◌≤◌, ◌⊎◌, ℕ, List, Option, Some, None, Ok, false, true, IfErr, IsErrOf};
+ghost use Rattle.xs_outside.specs.Told.{Rose};
+ghost use Rattle.xs_check.specs.Passes.{Checking};
+ghost use Rattle.xs_scene.specs.Records.{SceneRecord};
+ghost use Rattle.xs_scene_json.specs.SceneText.{scene_of};
+ghost use Rattle.xs_top.specs.Trace.{Outcome, Seen, with_asked};
+ghost use Rattle.xs_top.specs.Runs.{Runs};
+ghost use Rattle.xs_top.specs.Scenes.{ReadsScene};
+ghost use Rattle.xs_top.specs.Told.{Files, Verdict, IsVerdict};
+ghost use Rattle.xs_top.specs.Outcome.{no_scene, decoded, loading_scene};
+
+use crate::SCENE_LIMIT;
+use crate::status::{Status, status_of_scene};
+use crate::steps::ask;
+use std::alloc::Global;
+use xs_check::{GoodScene, check};
+use xs_json::{FieldFault, Path, SceneCode, SceneFault};
+use xs_outside::Library;
+use xs_scene::Name;
+use xs_scene_json::decode;
+
+/// Asks for the scene, reads and checks it.
+pub(crate) fn load_scene<L: Library>(
+    alloc: Global,
+    lib: &mut L,
+    name: &Name,
+) -> Result<GoodScene, Status>
+    ensures told { (files : Files) → L.files lib.old ≡ Some files → (verdict : Verdict) → IsVerdict files verdict
+        → (next : SceneRecord → Outcome) (seen : Seen) → Runs (loading_scene files verdict name.now next) next
+        (with_asked seen (L.asked lib.old)) (with_asked seen (L.asked lib.new)) result }
+    ensures same { L.files lib.new ≡ L.files lib.old }
+    ensures later { L.faults lib.old ≤ L.faults lib.new }
+    ensures read { IsErrOf result Status.ReadFault → Rose (L.faults lib.old) (L.faults lib.new) }
+    ensures write { IsErrOf result Status.WriteFault → ⊥ }
+{
+    let absent = refusal(alloc, SceneCode::NoScene);
+    let too_long = refusal(alloc, SceneCode::TooLong);
+    let bytes = ask(alloc, lib, name.text(), SCENE_LIMIT, absent, too_long)?;
+    let good = read_scene(alloc, bytes.as_slice())?;
+    Ok(good)
+}
+
+/// The answer where there is no scene file that can be read.
+fn refusal(alloc: Global, code: SceneCode) -> Status
+    ensures { result ≡ no_scene code }
+{
+    let path = Path::root(alloc);
+    Status::Scene(SceneFault { code, path })
+}
+
+/// The scene that the bytes of a file say, checked.
+fn read_scene(alloc: Global, bytes: &[u8]) -> Result<GoodScene, Status>
+    ensures told { (verdict : Verdict) → ((s : SceneRecord) → scene_of bytes.now ≡ Ok s → Checking s (verdict s))
+        → (next : SceneRecord → Outcome) (seen : Seen)
+        → Runs (decoded verdict (scene_of bytes.now) next) next seen seen result }
+    ensures read { IsErrOf result Status.ReadFault → ⊥ }
+    ensures write { IsErrOf result Status.WriteFault → ⊥ }
+{
+    match decode_and_check(alloc, bytes) {
+        Ok(good) => Ok(good),
+        Err(fault) => Err(status_of_scene(fault)),
+    }
+}
+
+fn decode_and_check(alloc: Global, bytes: &[u8]) -> Result<GoodScene, FieldFault>
+    ensures { ReadsScene result (scene_of bytes.now) }
+{
+    let scene = decode(alloc, bytes)?;
+    check(alloc, scene)
+}
