@@ -4,6 +4,7 @@
 
 mod kernels;
 mod scene_text;
+mod sharing;
 mod tiles;
 
 use std::rt::Clock;
@@ -32,6 +33,7 @@ fn main(rt: HostRuntime) -> io::Result<()> {
             "kernels" => kernels::time(&rt, rt.alloc()),
             "kernel-bytes" => kernels::write_bytes(&rt, rt.alloc()),
             "decode" | "encode" => time_text(&rt, part.as_str(), words.next()),
+            "needs" => sharing::time_needs(&rt, rt.alloc()),
             other => println!(rt; "xs_timing: there is no part {other}"),
         },
     }
