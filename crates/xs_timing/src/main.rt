@@ -38,7 +38,6 @@ fn main(rt: HostRuntime) -> io::Result<()> {
             "check" => checking::time(&rt, rt.alloc()),
             "needs" => sharing::time_needs(&rt, rt.alloc()),
             "decode" | "encode" => time_text(&rt, part.as_str(), words.next()),
-            "needs" => sharing::time_needs(&rt, rt.alloc()),
             other => println!(rt; "xs_timing: there is no part {other}"),
         },
     }
