@@ -11,3 +11,6 @@ pub mod Placed
 pub mod Shown
 pub mod Sections
 pub mod Commands
+pub mod Finishing
+pub mod Asking
+pub mod Accepting

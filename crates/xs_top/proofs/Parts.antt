@@ -36,7 +36,7 @@ grown-nothing seen = simp more-nothing
 pub grown-grown : (seen : Seen) (first then : List Event) → grown (grown seen first) then ≡ grown seen (first ++ then)
 grown-grown seen first then = simp (more-more, asks-append, puts-append, lines-append)
 
-after-after : (first then : List Event) (left : Outcome) → after first (after then left) ≡ after (first ++ then) left
+pub after-after : (first then : List Event) (left : Outcome) → after first (after then left) ≡ after (first ++ then) left
 after-after first then left = simp append_assoc
 
 -- ---- parts

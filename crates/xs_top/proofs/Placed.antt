@@ -17,7 +17,7 @@ pub placing_none : (s : SceneRecord) (pictures : Pictures) (base : List ℕ) (ne
 unfolding placing_rows
 placing_none s pictures base next = refl
 
-placing_first : (s : SceneRecord) (pictures : Pictures) (base : List ℕ) (row : ℕ) (rows : List ℕ) (next : Outcome) → placing_rows s pictures base (row ∷ rows) next ≡ placing (frame_at s pictures base row) (placing_rows s pictures base rows next)
+pub placing_first : (s : SceneRecord) (pictures : Pictures) (base : List ℕ) (row : ℕ) (rows : List ℕ) (next : Outcome) → placing_rows s pictures base (row ∷ rows) next ≡ placing (frame_at s pictures base row) (placing_rows s pictures base rows next)
 unfolding placing_rows
 placing_first s pictures base row rows next = refl
 

@@ -8,3 +8,4 @@ pub mod Rows
 pub mod Scenes
 pub mod Outcome
 pub mod Causes
+pub mod Finished

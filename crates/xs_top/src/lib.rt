@@ -6,6 +6,7 @@
 
 mod command;
 mod frames;
+mod laws;
 mod levels;
 mod palettes;
 mod render;
@@ -15,6 +16,10 @@ mod steps;
 mod texts;
 
 pub use command::run;
+pub use laws::{
+    a_file_is_asked_for_behind_whole_sections, a_good_scene_is_rendered,
+    only_a_good_scene_is_rendered,
+};
 pub use status::{Status, status_number};
 pub use texts::fault_text;
 
@@ -23,3 +28,6 @@ pub const SCENE_LIMIT: u64 = 16_777_216;
 
 /// The most bytes that the file of a drawing may have.
 pub const DRAWING_LIMIT: u64 = 67_108_885;
+
+#[cfg(test)]
+mod tests;

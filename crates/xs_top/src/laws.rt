@@ -1,0 +1,45 @@
+//! Laws of the outcome, in the words of its subject.
+ghost use Rattle.std.specs.Prelude.{◌≡◌, ◌≤◌, ◌+◌, ◌-◌, ◌++◌, ◌∷◌, [], ℕ, List, None, map};
+ghost use Rattle.xs_needs.specs.Fresh.{each_once};
+ghost use Rattle.xs_scene.specs.Records.{SceneRecord};
+ghost use Rattle.xs_top.specs.declared.status.Status.TheVariants as answers;
+ghost use Rattle.xs_top.specs.Trace.{Event, Ask, asks, puts, lines};
+ghost use Rattle.xs_top.specs.Told.{Files, Verdict};
+ghost use Rattle.xs_top.specs.Levels.{file_of, needed};
+ghost use Rattle.xs_top.specs.Rows.{rows_of, rows_before};
+ghost use Rattle.xs_top.specs.Finished.{Says, AreAccepted, frames_of};
+ghost use Rattle.xs_top.specs.Outcome.{rendered_line, rendering};
+
+/// A render of a scene without a fault, whose rows need only drawings that are there without a fault, ends
+/// well. It has asked for the scene and then for each drawing that its rows need, once; the shelf has gained
+/// exactly the frames of its rows, in order; and one line tells how many they are.
+pub fn a_good_scene_is_rendered()
+    ensures ends { (files : Files) (verdict : Verdict) (name base : List ℕ) (s : SceneRecord) (from to : ℕ) → from ≤ to
+        → Says files name s → verdict s ≡ None → AreAccepted files s (rows_of from to)
+        → (rendering files verdict name from to base).status ≡ answers.Ok }
+    ensures asked { (files : Files) (verdict : Verdict) (name base : List ℕ) (s : SceneRecord) (from to : ℕ) → from ≤ to
+        → Says files name s → verdict s ≡ None → AreAccepted files s (rows_of from to)
+        → asks (rendering files verdict name from to base).work
+        ≡ name ∷ map (file_of s) (each_once (needed s (rows_of from to))) }
+    ensures frames { (files : Files) (verdict : Verdict) (name base : List ℕ) (s : SceneRecord) (from to : ℕ) → from ≤ to
+        → Says files name s → verdict s ≡ None → AreAccepted files s (rows_of from to)
+        → puts (rendering files verdict name from to base).work ≡ frames_of files s base (rows_of from to) }
+    ensures noted { (files : Files) (verdict : Verdict) (name base : List ℕ) (s : SceneRecord) (from to : ℕ) → from ≤ to
+        → Says files name s → verdict s ≡ None → AreAccepted files s (rows_of from to)
+        → lines (rendering files verdict name from to base).work ≡ rendered_line (to + 1 - from) ++ 10 ∷ [] }
+{}
+
+/// No other render ends well.
+pub fn only_a_good_scene_is_rendered()
+    ensures { (files : Files) (verdict : Verdict) (name base : List ℕ) (s : SceneRecord) (from to : ℕ) → from ≤ to
+        → Says files name s → (rendering files verdict name from to base).status ≡ answers.Ok
+        → AreAccepted files s (rows_of from to) }
+{}
+
+/// Before a file is asked for, the frames of whole sections stand on the shelf.
+pub fn a_file_is_asked_for_behind_whole_sections()
+    ensures { (files : Files) (verdict : Verdict) (name base : List ℕ) (s : SceneRecord) (from to : ℕ)
+        → Says files name s → (done rest : List Event) (asked : List ℕ)
+        → (rendering files verdict name from to base).work ≡ done ++ Ask asked ∷ rest
+        → (sections : ℕ) × (puts done ≡ frames_of files s base (rows_before from to sections)) }
+{}
