@@ -6,7 +6,7 @@ import os
 import sys
 
 import pictures
-from ink import Cel, circle, common, ellipse, limb, polygon, union, without
+from ink import Cel, circle, common, ellipse, limb, polygon, union
 
 WIDTH, HEIGHT = 320, 180
 ROWS = 24
@@ -15,7 +15,7 @@ STRIDE = 48
 GROUND = 34
 
 # Styles of the walker's palette.
-NONE, LINE, COAT, SLEEVE, SKIN, SCARF, HAT, BAND, TROUSERS, BOOT, CHEEK, WHITE = range(12)
+_, LINE, COAT, SLEEVE, SKIN, SCARF, HAT, BAND, TROUSERS, BOOT, CHEEK, WHITE = range(12)
 
 STYLES = [
     [0, 0, 0, 0], [46, 30, 48, 255], [214, 92, 64, 255], [196, 78, 56, 255], [250, 214, 178, 255],
@@ -264,7 +264,11 @@ def walker():
     """The walker, in pieces on one peg that goes up and down."""
     legs, arms, trunk, tail, pattern = 4, 5, 6, 7, 8
     return {
-        "pegs": [bobbing(), {"keys": [{"row": 1, "x": -3, "y": 1}]}, {"parent": 0, "keys": [{"row": 1, "x": -4, "y": 0}]}],
+        "pegs": [
+            bobbing(),
+            {"keys": [{"row": 1, "x": -3, "y": 1}]},
+            {"parent": 0, "keys": [{"row": 1, "x": -4, "y": 0}]},
+        ],
         "columns": [
             {"cells": on_twos(legs, 0, DRAWINGS)},
             {"peg": 1, "cells": on_twos(legs, DRAWINGS // 2, DRAWINGS)},
@@ -356,5 +360,7 @@ def draw(folder):
 
 
 if __name__ == "__main__":
+    if len(sys.argv) != 2:
+        sys.exit("draw_walk: name a folder")
     os.makedirs(sys.argv[1], exist_ok=True)
     draw(sys.argv[1])

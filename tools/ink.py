@@ -56,10 +56,6 @@ def common(*shapes):
     return lambda px, py: max(shape(px, py) for shape in shapes)
 
 
-def without(shape, hole):
-    return lambda px, py: max(shape(px, py), -hole(px, py))
-
-
 def part(amount):
     """The part of a pixel that is covered."""
     return min(1.0, max(0.0, amount + 0.5))
