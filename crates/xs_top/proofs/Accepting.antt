@@ -1,5 +1,5 @@
 -- A render that ends well met no fault.
-use Rattle.std.proofs.Common.{◌≡◌, ℕ, ◌+◌, ◌-◌, ◌≤◌, Bool, true, false, ◌||◌, ◌==◌, List, [], ◌∷◌, ◌++◌, length, nat_le, flat_map, if◌then◌else◌, Option, Some, None, refl, sym, ap, ◌∙◌, subst, append_assoc, arith, ◌⊎◌, inl, inr}
+use Rattle.std.proofs.Common.{◌≡◌, ℕ, ◌+◌, ◌-◌, ◌≤◌, Bool, true, false, ◌||◌, ◌==◌, List, [], ◌∷◌, ◌++◌, length, nat_le, if◌then◌else◌, Option, Some, None, refl, sym, ap, ◌∙◌, subst, append_assoc, arith, ◌⊎◌, inl, inr}
 use Rattle.std.proofs.lemmas.Bool.Decides.{nat_tests}
 use Rattle.std.proofs.lemmas.List.{append-nil}
 use Rattle.xs_json.specs.declared.fault.SceneFault.{SceneFault}
@@ -16,10 +16,10 @@ use Rattle.xs_top.specs.Told.{Files, Verdict}
 use Rattle.xs_top.specs.Levels.{file_of, kind_of, raw_kind_of, needed, pictures_of}
 use Rattle.xs_top.specs.Rows.{rows_of, sections_of}
 use Rattle.xs_top.specs.Finished.{Says, IsAccepted, AreAccepted}
-use Rattle.xs_top.specs.Outcome.{found, asking, checked, accepted, loading_drawing, loading, placing_rows, rendering_section, rendering_sections, closing, rendering_scene, rendering}
+use Rattle.xs_top.specs.Outcome.{found, asking, checked, accepted, loading_drawing, loading, placing_rows, rendering_sections, closing, rendering_scene, rendering}
 use Rattle.xs_top.proofs.Listings.{listed-append, fresh_known, fresh_new, or_true}
 use Rattle.xs_top.proofs.Drawn.{loading_none, loading_first}
-use Rattle.xs_top.proofs.Sections.{section_is, sections_first, sections_none}
+use Rattle.xs_top.proofs.Sections.{section_is, sections_first}
 use Rattle.xs_top.proofs.Finishing.{scene_through, placing_through, joined, joined_sections, needed-append}
 
 -- ---- a drawing

@@ -1,22 +1,21 @@
 -- What stands on the shelf where a file is asked for.
-use Rattle.std.proofs.Common.{◌≡◌, ℕ, zero, suc, ◌+◌, ◌-◌, Bool, true, false, List, [], ◌∷◌, ◌++◌, length, map, nat_le, if◌then◌else◌, Option, Some, None, refl, sym, ap, ◌∙◌, subst, append_assoc, arith}
+use Rattle.std.proofs.Common.{◌≡◌, ℕ, zero, suc, ◌+◌, ◌-◌, true, false, List, [], ◌∷◌, ◌++◌, length, map, nat_le, if◌then◌else◌, Option, Some, None, sym, ap, ◌∙◌, subst, append_assoc}
 use Rattle.std.specs.List.{range_with_len}
 use Rattle.std.proofs.lemmas.List.{map-append, append-nil}
 use Rattle.xs_outside.specs.declared.object.Object.{Object}
 use Rattle.xs_json.specs.declared.fault.SceneFault.{SceneFault}
 use Rattle.xs_rawfile.specs.declared.fault.LevelCode.{LevelCode}
 use Rattle.xs_meaning.specs.Drawings.{Pictures}
-use Rattle.xs_needs.specs.Fresh.{fresh}
 use Rattle.xs_scene.specs.Records.{SceneRecord}
 use Rattle.xs_top.specs.declared.status.Status.{Status}
 use Rattle.xs_top.specs.Trace.{Event, Ask, Place, Line, puts, Outcome, ended, after}
 use Rattle.xs_top.specs.Told.{Files, Verdict}
 use Rattle.xs_top.specs.Frames.{frame_at}
-use Rattle.xs_top.specs.Levels.{file_of, needed, pictures_of}
-use Rattle.xs_top.specs.Rows.{section_rows, sections_in, sections_of, rows_before}
+use Rattle.xs_top.specs.Levels.{file_of, pictures_of}
+use Rattle.xs_top.specs.Rows.{section_rows, sections_in, rows_before}
 use Rattle.xs_top.specs.Finished.{Says, frames_of}
 use Rattle.xs_top.specs.Outcome.{found, asking, placing, noting, checked, accepted, loading_drawing, loading, placing_rows, rendering_sections, closing, rendering_scene, rendering}
-use Rattle.xs_top.proofs.Drawn.{drawing_asked, loading_none, loading_first}
+use Rattle.xs_top.proofs.Drawn.{loading_none, loading_first}
 use Rattle.xs_top.proofs.Placed.{placing_none, placing_first}
 use Rattle.xs_top.proofs.Sections.{section_is, sections_first, sections_none, sections_are, rows_before_more}
 use Rattle.xs_top.proofs.Finishing.{scene_through}

@@ -1,11 +1,10 @@
 -- Files of drawings, the pictures that they show, and what is held of them.
-use Rattle.std.proofs.Common.{◌≡◌, ℕ, zero, suc, ◌+◌, ◌-◌, ◌<◌, ◌≤◌, take, drop, append_assoc, ◌||◌, ◌==◌, Bool, true, false, List, [], ◌∷◌, ◌++◌, length, get_or, map, nat_lt, slice_get, slice_set, slice_index_or, Option, Some, None, is_some, is_none, IsNone, ◌↔◌, option_map, option_and_then, Fits, w8, refl, sym, ap, ◌∙◌, subst, arith}
+use Rattle.std.proofs.Common.{◌≡◌, ℕ, zero, suc, ◌+◌, ◌-◌, ◌<◌, ◌≤◌, take, drop, append_assoc, ◌||◌, ◌==◌, Bool, true, false, List, [], ◌∷◌, ◌++◌, length, get_or, map, nat_lt, slice_get, slice_set, slice_index_or, Option, Some, None, is_some, IsNone, ◌↔◌, option_map, option_and_then, Fits, w8, refl, sym, ap, ◌∙◌, arith}
 use Rattle.std.proofs.lemmas.Bool.Decides.{nat_tests}
 use Rattle.std.proofs.lemmas.Option.{get_or_from_slice_get}
 use Rattle.std.proofs.Math.ListN.{length-set}
 use Rattle.std.proofs.lemmas.List.{take_more, drop_more, drop_all, take_all}
 use Rattle.xs_pixel.specs.Channels.{Channels}
-use Rattle.xs_pixel.specs.Picture.{Picture}
 use Rattle.xs_cm32.specs.Word.{colour_under}
 use Rattle.xs_cm32.specs.Rows.{words}
 use Rattle.xs_palette.specs.Styles.{style_of}
@@ -20,7 +19,7 @@ use Rattle.xs_check.specs.Good.{files_of, HasPalette}
 use Rattle.xs_meaning.specs.Drawings.{Pictures, level_of}
 use Rattle.xs_meaning.specs.Palettes.{is_listed}
 use Rattle.xs_top.specs.Told.{Files}
-use Rattle.xs_top.specs.Levels.{file_of, kind_by, kind_of, raw_kind_of, palette_of, palettes_of, are_bytes, picture_in, pictures_of, film_of, IsFileOf, AreShown, HasRoom, Holds}
+use Rattle.xs_top.specs.Levels.{file_of, kind_by, kind_of, raw_kind_of, palette_of, palettes_of, are_bytes, pictures_of, film_of, IsFileOf, AreShown, HasRoom, Holds}
 use Rattle.xs_rawfile.specs.declared.fault.LevelCode.TheVariants as level_code
 use Rattle.xs_rawfile.specs.Level.{first_fault}
 use Rattle.xs_top.specs.declared.TheConstants.{DRAWING_LIMIT}

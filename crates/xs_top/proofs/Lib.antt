@@ -3,6 +3,8 @@ pub mod Answered
 pub mod Wholes
 pub mod Findings
 pub mod Passes
+pub mod SceneTexts
+pub mod LevelCodes
 pub mod Verdicts
 pub mod Listings
 pub mod RowRanges

@@ -1,11 +1,10 @@
 -- Parts of a run, one after another.
-use Rattle.std.proofs.Common.{◌≡◌, List, [], ◌∷◌, ◌++◌, refl, false, sym, ap, ◌∙◌, append_assoc, ◌⊎◌, inl, inr}
-use Rattle.xs_outside.specs.Told.{more}
+use Rattle.std.proofs.Common.{◌≡◌, List, [], ◌∷◌, ◌++◌, refl, false, sym, ap, ◌∙◌, append_assoc, inl, inr}
 use Rattle.xs_outside.proofs.Growth.{more-nothing, more-more}
 use Rattle.xs_top.specs.declared.status.Status.{Status}
 use Rattle.xs_top.specs.declared.status.Status.TheVariants as answers
 use Rattle.xs_top.specs.Trace.{Event, Ask, Place, Line, asks, puts, lines, Outcome, ended, after, Seen, grown}
-use Rattle.xs_top.specs.Runs.{Did, is_broken, Stopped, StoppedAsking, StoppedPlacing, StoppedNoting}
+use Rattle.xs_top.specs.Runs.{Did, is_broken, Stopped}
 
 -- ---- the three readings of a list of events
 

@@ -1,5 +1,5 @@
 -- Each pass of checking finds one thing at most.
-use Rattle.std.proofs.Common.{◌≡◌, ◌≤◌, ◌<◌, ℕ, false, List, Option, length, map, refl}
+use Rattle.std.proofs.Common.{◌≡◌, ℕ, false, List, refl}
 use Rattle.xs_json.specs.declared.code.SceneCode.{SceneCode}
 use Rattle.xs_scene.specs.declared.level.Kind.{Kind}
 use Rattle.xs_scene.specs.declared.level.Kind.TheVariants.{Colour, Cm32}
@@ -9,9 +9,8 @@ use Rattle.xs_scene.specs.declared.node.Ref.{Ref}
 use Rattle.xs_scene.specs.declared.node.Ref.TheVariants.{Column as ToColumn, Node as ToNode}
 use Rattle.xs_scene.specs.declared.node.Node.{Node}
 use Rattle.xs_scene.specs.declared.node.Node.TheVariants.{Pair, Card, Shuffle, Blur, Keep, Delete}
-use Rattle.xs_scene.specs.Records.{SceneRecord, SheetRecord, ColoursRecord, StyleKeyRecord, LevelRecord, PegRecord, PegKeyRecord, ColumnRecord, ExposureRecord}
-use Rattle.xs_check.specs.Finding.{Finding}
-use Rattle.xs_check.specs.Passes.{AtMost, PaletteSizes, NodeSizes, SheetSizes, Sizes, Names, CameraReference, PaletteReferences, KindReference, LevelReference, ShownReferences, CellReferences, PegReference, ColumnReferences, RefReference, NodeReferences, SheetReferences, References, EachApart, FilesApart, PaletteOverlaps, PegOverlaps, ColumnOverlaps, SheetOverlaps, Overlaps, NoCycles, NoLongChains, SheetPegCycles, PegCycles, SheetNodeCycles, NodeCycles, SheetCycles, SheetLongChains, LongChains, Checking}
+use Rattle.xs_scene.specs.Records.{SceneRecord, SheetRecord, ColoursRecord, LevelRecord, PegRecord, ColumnRecord, ExposureRecord}
+use Rattle.xs_check.specs.Passes.{AtMost, PaletteSizes, NodeSizes, SheetSizes, Sizes, Names, CameraReference, PaletteReferences, KindReference, LevelReference, ShownReferences, CellReferences, PegReference, ColumnReferences, RefReference, NodeReferences, SheetReferences, References, EachApart, FilesApart, SheetOverlaps, Overlaps, NoCycles, NoLongChains, LongChains, Checking}
 use Rattle.xs_check.specs.Ways.{Links}
 use Rattle.xs_top.specs.Causes.{is_lost_scene}
 use Rattle.xs_top.proofs.Findings.{Single, single_nothing, single_unless, single_then, single_each, single_each_at, single_if_there}

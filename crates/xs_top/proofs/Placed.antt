@@ -1,5 +1,5 @@
 -- Frames of rows, one after another.
-use Rattle.std.proofs.Common.{◌≡◌, ℕ, zero, suc, ◌+◌, ◌-◌, ◌<◌, ◌≤◌, List, [], ◌∷◌, ◌++◌, All, IsSome, length, refl, sym, ap, ◌∙◌, subst, arith}
+use Rattle.std.proofs.Common.{◌≡◌, ℕ, zero, suc, ◌+◌, ◌-◌, ◌<◌, ◌≤◌, List, [], ◌∷◌, ◌++◌, All, IsSome, length, refl, ap, ◌∙◌, subst, arith}
 use Rattle.std.proofs.lemmas.List.{length-append, get_or-append-add, get_or_append_left}
 use Rattle.std.specs.List.{range_with_len}
 use Rattle.xs_direct.specs.Pictures.{AreHeld}
@@ -11,7 +11,7 @@ use Rattle.xs_top.specs.Trace.{Outcome}
 use Rattle.xs_top.specs.Frames.{frame_at}
 use Rattle.xs_top.specs.Levels.{needed}
 use Rattle.xs_top.specs.Outcome.{placing, placing_rows}
-use Rattle.xs_top.proofs.RowRanges.{range_next, range_over, range-append, needed_next}
+use Rattle.xs_top.proofs.RowRanges.{range_next, range_over}
 
 pub placing_none : (s : SceneRecord) (pictures : Pictures) (base : List ℕ) (next : Outcome) → placing_rows s pictures base [] next ≡ next
 unfolding placing_rows

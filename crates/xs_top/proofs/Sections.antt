@@ -1,5 +1,5 @@
 -- Sections, and what they need.
-use Rattle.std.proofs.Common.{◌≡◌, ℕ, ◌+◌, ◌-◌, ◌<◌, ◌≤◌, ◌&&◌, Bool, true, false, List, [], ◌∷◌, ◌++◌, length, get_or, map, flat_map, drop, IsSome, IfSome, is_some, is_none, nat_lt, ◌||◌, zero, suc, slice_get, option_and_then, replicate, Option, Some, None, refl, sym, ap, ◌∙◌, subst, arith}
+use Rattle.std.proofs.Common.{◌≡◌, ℕ, ◌+◌, ◌-◌, ◌<◌, ◌≤◌, ◌&&◌, Bool, true, false, List, [], ◌∷◌, ◌++◌, length, get_or, map, flat_map, drop, IfSome, is_some, is_none, nat_lt, ◌||◌, zero, suc, slice_get, option_and_then, replicate, Option, Some, None, refl, sym, ap, ◌∙◌, arith}
 use Rattle.std.specs.List.{range_with_len, AllByRecursion}
 use Rattle.std.specs.Simd.Lanes.{Each1}
 use Rattle.std.proofs.lemmas.Bool.Decides.{nat_tests}
@@ -8,16 +8,15 @@ use Rattle.std.proofs.lemmas.List.Elements.{All-from_recursion}
 use Rattle.std.proofs.lemmas.List.Folds.{list_any_at}
 use Rattle.std.proofs.lemmas.Grind.{flat_map-append}
 use Rattle.xs_direct.specs.Pictures.{AreHeld}
-use Rattle.xs_meaning.specs.Drawings.{Pictures, ArePixels, HoldsPixels}
+use Rattle.xs_meaning.specs.Drawings.{ArePixels, HoldsPixels}
 use Rattle.xs_meaning.specs.Palettes.{is_listed}
 use Rattle.xs_needs.specs.Fresh.{fresh}
 use Rattle.xs_pixel.specs.Channels.{Channels, IsPixel}
-use Rattle.xs_pixel.specs.Picture.{Picture}
 use Rattle.xs_pixel.specs.Rows.{pixels}
 use Rattle.xs_rawfile.specs.declared.drawing.RawKind.{RawKind}
 use Rattle.xs_rawfile.specs.declared.drawing.RawKind.TheVariants as raw_kind
-use Rattle.xs_rawfile.specs.Held.{Held, held, slot_in, content_of}
-use Rattle.xs_rawfile.specs.Level.{first_fault, raw_of}
+use Rattle.xs_rawfile.specs.Held.{Held, held, content_of}
+use Rattle.xs_rawfile.specs.Level.{first_fault}
 use Rattle.xs_rawfile.specs.Raw.{Raw, Fills}
 use Rattle.xs_rawfile.specs.declared.fault.LevelCode.{LevelCode}
 use Rattle.xs_rawfile.proofs.Faults.{holds_raw}

@@ -1,5 +1,5 @@
 -- What reading and checking a scene leaves to do.
-use Rattle.std.proofs.Common.{◌≡◌, List, ℕ, Option, Some, None, Ok, Err, Result, refl, ap, ◌∙◌, inl, inr}
+use Rattle.std.proofs.Common.{◌≡◌, List, ℕ, false, Option, Some, None, Ok, Err, refl, ap, inl, inr}
 use Rattle.xs_json.specs.declared.fault.SceneFault.{SceneFault}
 use Rattle.xs_json.specs.declared.fault.FieldFault.{FieldFault}
 use Rattle.xs_json.specs.declared.fault.FieldFault.TheVariants as field
@@ -10,8 +10,9 @@ use Rattle.xs_check.specs.Passes.{Checking}
 use Rattle.xs_json.specs.declared.code.SceneCode.TheVariants as scene_code
 use Rattle.xs_top.specs.declared.TheConstants.{SCENE_LIMIT}
 use Rattle.xs_top.specs.Trace.{Outcome, ended, Seen}
-use Rattle.xs_top.specs.Runs.{Did, Stopped}
+use Rattle.xs_top.specs.Runs.{Stopped}
 use Rattle.xs_top.specs.Scenes.{ReadsScene}
+use Rattle.xs_top.specs.Causes.{is_lost_scene, is_lost}
 use Rattle.xs_top.specs.Texts.{scene_status}
 use Rattle.xs_top.specs.Told.{Files, Verdict}
 use Rattle.xs_top.specs.Outcome.{no_scene, asking, checked, decoded, loading_scene}
@@ -37,3 +38,9 @@ module _ (verdict : Verdict) (reading : Reading SceneRecord) (next : SceneRecord
 pub scene_asked : (files : Files) (verdict : Verdict) (name : List ℕ) (next : SceneRecord → Outcome) → loading_scene files verdict name next ≡ asking files name SCENE_LIMIT (no_scene scene_code.NoScene) (no_scene scene_code.TooLong) (λ bytes. decoded verdict (scene_of bytes) next)
 unfolding loading_scene
 scene_asked files verdict name next = refl
+
+-- a fault of reading or checking is never that there is no file, or one too long
+pub fault_kept : (reading : Reading SceneRecord) (fault : FieldFault) → ((f : SceneFault) → reading ≡ Err f → is_lost_scene f.code ≡ false) → ReadsScene (Err fault) reading → is_lost (scene_status fault) ≡ false
+fault_kept reading (field.Fault fault) kept (inl e) = kept fault e
+fault_kept reading (field.Fault fault) kept (inr found) = (checking found.0).there fault found.2
+fault_kept reading field.Memory kept reads = refl

@@ -1,14 +1,13 @@
 -- What a whole run has done, from the part that it did.
-use Rattle.std.proofs.Common.{◌≡◌, ℕ, List, [], ◌∷◌, ◌++◌, length, take, drop, refl, sym, ap, ◌∙◌, ◌⊎◌, inl, inr, Option, true, append_assoc}
+use Rattle.std.proofs.Common.{◌≡◌, ℕ, List, [], ◌∷◌, ◌++◌, length, take, drop, refl, sym, ap, ◌∙◌, inl, inr, Option, true, append_assoc}
 use Rattle.std.proofs.Math.Seq.{take-append_seam}
 use Rattle.std.proofs.lemmas.Bool.{false≢true}
 use Rattle.std.proofs.lemmas.List.{append-nil, take-append-drop}
-use Rattle.xs_outside.specs.declared.object.Object.{Object}
 use Rattle.xs_outside.specs.Told.{more}
-use Rattle.xs_outside.proofs.Growth.{more-nothing, more-more}
+use Rattle.xs_outside.proofs.Growth.{more-more}
 use Rattle.xs_top.specs.declared.status.Status.{Status}
 use Rattle.xs_top.specs.declared.status.Status.TheVariants as answers
-use Rattle.xs_top.specs.Trace.{Event, Ask, Place, Line, asks, puts, lines, Outcome, ended, after, Seen, grown}
+use Rattle.xs_top.specs.Trace.{Ask, asks, puts, lines, Outcome, ended, Seen, grown}
 use Rattle.xs_top.specs.Runs.{Did, Stopped, StoppedAsking, StoppedNoting, GainedFront, is_broken, IsRun}
 use Rattle.xs_top.proofs.Parts.{asks-append, puts-append, lines-append, did_then}
 

@@ -1,4 +1,4 @@
-use Rattle.std.specs.Prelude.{◌≡◌, Bool, true, false}
+use Rattle.std.specs.Prelude.{◌≡◌, Bool, true, false, Result, Ok, Err}
 use Rattle.xs_json.specs.declared.code.SceneCode.{SceneCode}
 use Rattle.xs_json.specs.declared.code.SceneCode.TheVariants as scene
 use Rattle.xs_rawfile.specs.declared.fault.LevelCode.{LevelCode}
@@ -22,3 +22,8 @@ abbrev pub is_lost : Status → Bool
 is_lost (answers.Scene fault) = is_lost_scene fault.code
 is_lost (answers.Level drawing code) = is_lost_level code
 is_lost status = false
+
+-- a function answered so
+abbrev pub IsLost : {A : Type 0} → Result A Status → Type 0
+IsLost (Ok value) = ⊥
+IsLost (Err status) = is_lost status ≡ true

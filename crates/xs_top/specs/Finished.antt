@@ -1,11 +1,11 @@
-use Rattle.std.specs.Prelude.{◌≡◌, ℕ, ◌≤◌, List, length, None, Some, Ok, true, flat_map, map}
+use Rattle.std.specs.Prelude.{◌≡◌, ℕ, ◌≤◌, List, length, None, Some, Ok, true, map}
 use Rattle.xs_outside.specs.declared.object.Object.{Object}
 use Rattle.xs_rawfile.specs.Level.{first_fault}
 use Rattle.xs_scene.specs.Records.{SceneRecord}
 use Rattle.xs_scene_json.specs.SceneText.{scene_of}
 use Rattle.xs_meaning.specs.Palettes.{is_listed}
 use Rattle.xs_top.specs.declared.TheConstants.{SCENE_LIMIT, DRAWING_LIMIT}
-use Rattle.xs_top.specs.Told.{Files, Verdict}
+use Rattle.xs_top.specs.Told.{Files}
 use Rattle.xs_top.specs.Frames.{frame_at}
 use Rattle.xs_top.specs.Levels.{file_of, kind_of, raw_kind_of, needed, pictures_of}
 

@@ -1,4 +1,4 @@
-use Rattle.std.specs.Prelude.{◌≡◌, ℕ, ◌&&◌, nat_lt, Bool, true, List, [], map, length, slice_get, slice_index_or, flat_map, Option, None, Some, is_none, is_some, option_and_then, option_map, if◌then◌else◌}
+use Rattle.std.specs.Prelude.{◌≡◌, ℕ, ◌&&◌, nat_lt, Bool, true, List, [], map, length, slice_index_or, flat_map, Option, None, Some, is_none, is_some, option_and_then, option_map, if◌then◌else◌}
 use Rattle.std.specs.List.{list_all}
 use Rattle.xs_pixel.specs.Channels.{Channels}
 use Rattle.xs_pixel.specs.Picture.{Picture}
@@ -10,9 +10,9 @@ use Rattle.xs_rawfile.specs.Level.{first_fault, raw_of}
 use Rattle.xs_rawfile.specs.Raw.{Raw}
 use Rattle.xs_scene.specs.declared.level.Kind.{Kind}
 use Rattle.xs_scene.specs.declared.level.Kind.TheVariants.{Colour, Cm32}
-use Rattle.xs_scene.specs.Records.{SceneRecord, ColoursRecord, LevelRecord}
+use Rattle.xs_scene.specs.Records.{SceneRecord, LevelRecord}
 use Rattle.xs_check.specs.Good.{files_of}
-use Rattle.xs_meaning.specs.Drawings.{Pictures, level_of, no_colours}
+use Rattle.xs_meaning.specs.Drawings.{Pictures, level_of}
 use Rattle.xs_meaning.specs.Expressions.{drawings_of, root_of}
 use Rattle.xs_meaning.specs.Palettes.{is_listed}
 use Rattle.xs_top.specs.Told.{Files}

@@ -1,6 +1,7 @@
-ghost use Rattle.std.specs.Prelude.{◌≡◌, ◌≤◌, ◌⊎◌, Some, IfOk, IsErrOf, map, string_bytes};
+ghost use Rattle.std.specs.Prelude.{◌≡◌, ◌≤◌, ◌⊎◌, Some, IfOk, IsErrOf, map, string_bytes, None, true};
 ghost use Rattle.xs_outside.specs.Told.{Rose, more};
 ghost use Rattle.xs_words.specs.Commands.{IsCommand};
+ghost use Rattle.xs_top.specs.Causes.{IsLost, is_lost};
 ghost use Rattle.xs_top.specs.Trace.{Seen, puts, ended, with_asked, with_notes};
 ghost use Rattle.xs_top.specs.Runs.{Runs, IsRun};
 ghost use Rattle.xs_top.specs.Told.{Files, Verdict, IsVerdict};
@@ -42,6 +43,7 @@ fn render<L: Library, S: Shelf, T: Notes>(
         → Runs (rendering files verdict scene.now from to base.now) (λ _. ended Status.Ok)
         (record { asked = L.asked lib.old; shelf = S.objects shelf.old; notes = T.written notes.old })
         (record { asked = L.asked lib.new; shelf = S.objects shelf.new; notes = T.written notes.new }) result }
+    ensures untold { L.files lib.old ≡ None → IsLost result → Rose (L.faults lib.old) (L.faults lib.new) }
     ensures read { IsErrOf result Status.ReadFault → Rose (L.faults lib.old) (L.faults lib.new) }
     ensures write { IsErrOf result Status.WriteFault
         → Rose (S.faults shelf.old) (S.faults shelf.new) ⊎ Rose (T.faults notes.old) (T.faults notes.new) }
@@ -68,6 +70,7 @@ fn show<L: Library, T: Notes>(
         → (seen : Seen) → Runs (showing files verdict scene.now) (λ _. ended Status.Ok)
         (with_notes (with_asked seen (L.asked lib.old)) (T.written notes.old))
         (with_notes (with_asked seen (L.asked lib.new)) (T.written notes.new)) result }
+    ensures untold { L.files lib.old ≡ None → IsLost result → Rose (L.faults lib.old) (L.faults lib.new) }
     ensures read { IsErrOf result Status.ReadFault → Rose (L.faults lib.old) (L.faults lib.new) }
     ensures write { IsErrOf result Status.WriteFault → Rose (T.faults notes.old) (T.faults notes.new) }
 {
@@ -90,6 +93,7 @@ fn obey<L: Library, S: Shelf, T: Notes>(
         → Runs (commanding files verdict command.now) (λ _. ended Status.Ok)
         (record { asked = L.asked lib.old; shelf = S.objects shelf.old; notes = T.written notes.old })
         (record { asked = L.asked lib.new; shelf = S.objects shelf.new; notes = T.written notes.new }) result }
+    ensures untold { L.files lib.old ≡ None → IsLost result → Rose (L.faults lib.old) (L.faults lib.new) }
     ensures read { IsErrOf result Status.ReadFault → Rose (L.faults lib.old) (L.faults lib.new) }
     ensures write { IsErrOf result Status.WriteFault
         → Rose (S.faults shelf.old) (S.faults shelf.new) ⊎ Rose (T.faults notes.old) (T.faults notes.new) }
@@ -126,6 +130,7 @@ fn command_of(alloc: Global, words: &Vec<String>) -> Result<Command, Status>
     ensures command { IfOk result (λ command. (files : Files) (verdict : Verdict)
         → outcome files verdict (map string_bytes words.now.items) ≡ commanding files verdict command) }
     ensures range { IfOk result IsCommand }
+    ensures found { IsLost result → ⊥ }
     ensures read { IsErrOf result Status.ReadFault → ⊥ }
     ensures write { IsErrOf result Status.WriteFault → ⊥ }
 {
@@ -147,6 +152,7 @@ fn try_run<L: Library, S: Shelf, T: Notes>(
         → Runs (outcome files verdict (map string_bytes words.now.items)) (λ _. ended Status.Ok)
         (record { asked = L.asked lib.old; shelf = S.objects shelf.old; notes = T.written notes.old })
         (record { asked = L.asked lib.new; shelf = S.objects shelf.new; notes = T.written notes.new }) result }
+    ensures untold { L.files lib.old ≡ None → IsLost result → Rose (L.faults lib.old) (L.faults lib.new) }
     ensures read { IsErrOf result Status.ReadFault → Rose (L.faults lib.old) (L.faults lib.new) }
     ensures write { IsErrOf result Status.WriteFault
         → Rose (S.faults shelf.old) (S.faults shelf.new) ⊎ Rose (T.faults notes.old) (T.faults notes.new) }
@@ -175,7 +181,9 @@ pub fn run<L: Library, S: Shelf, T: Notes>(
         (record { asked = L.asked lib.old; shelf = S.objects shelf.old; notes = T.written notes.old })
         (record { asked = L.asked lib.new; shelf = S.objects shelf.new; notes = T.written notes.new }) result }
 
-    // A fault is told only where the count of its object rose.
+    // A fault is told only where the count of its object rose, and so is an absent or too long file by a
+    // library that does not tell its files.
+    ensures untold { L.files lib.old ≡ None → is_lost result ≡ true → Rose (L.faults lib.old) (L.faults lib.new) }
     ensures read { result ≡ Status.ReadFault → Rose (L.faults lib.old) (L.faults lib.new) }
     ensures write { result ≡ Status.WriteFault
         → Rose (S.faults shelf.old) (S.faults shelf.new) ⊎ Rose (T.faults notes.old) (T.faults notes.new) }

@@ -4,6 +4,7 @@ ghost use Rattle.xs_direct.specs.Pictures.{AreHeld};
 ghost use Rattle.xs_meaning.specs.Drawings.{Pictures, ArePixels};
 ghost use Rattle.xs_meaning.specs.Expressions.{drawings_of, root_of};
 ghost use Rattle.xs_outside.specs.Told.{Rose};
+ghost use Rattle.xs_top.specs.Causes.{IsLost};
 ghost use Rattle.xs_top.specs.Trace.{Outcome, Seen, with_shelf};
 ghost use Rattle.xs_top.specs.Runs.{Runs};
 ghost use Rattle.xs_top.specs.Frames.{frame_name_of, frame_at};
@@ -47,6 +48,7 @@ fn place_row<K: Film, S: Shelf>(
         → Runs (placing (frame_at good.now pictures base.now row) next) (λ _. next)
         (with_shelf seen (S.objects shelf.old)) (with_shelf seen (S.objects shelf.new)) result }
     ensures later { S.faults shelf.old ≤ S.faults shelf.new }
+    ensures found { IsLost result → ⊥ }
     ensures read { IsErrOf result Status.ReadFault → ⊥ }
     ensures write { IsErrOf result Status.WriteFault → Rose (S.faults shelf.old) (S.faults shelf.new) }
 {
@@ -72,6 +74,7 @@ pub(crate) fn place_rows<K: Film, S: Shelf>(
         → Runs (placing_rows good.now pictures base.now (range_with_len first rows) next) (λ _. next)
         (with_shelf seen (S.objects shelf.old)) (with_shelf seen (S.objects shelf.new)) result }
     ensures later { S.faults shelf.old ≤ S.faults shelf.new }
+    ensures found { IsLost result → ⊥ }
     ensures read { IsErrOf result Status.ReadFault → ⊥ }
     ensures write { IsErrOf result Status.WriteFault → Rose (S.faults shelf.old) (S.faults shelf.new) }
 {

@@ -5,6 +5,7 @@ ghost use Rattle.xs_meaning.specs.Expressions.{drawings_of, root_of};
 ghost use Rattle.xs_needs.specs.Fresh.{fresh};
 ghost use Rattle.xs_outside.specs.Told.{Rose};
 ghost use Rattle.xs_rawfile.specs.Level.{first_fault, raw_of};
+ghost use Rattle.xs_top.specs.Causes.{IsLost};
 ghost use Rattle.xs_top.specs.Trace.{Outcome, Seen, with_asked};
 ghost use Rattle.xs_top.specs.Runs.{Runs};
 ghost use Rattle.xs_top.specs.Told.{Files};
@@ -49,6 +50,7 @@ fn read_drawing(alloc: Global, d: u32, kind: RawKind, bytes: &[u8]) -> Result<Dr
     ensures value { IfOk result (λ g. g ≡ raw_of kind bytes.now) }
     ensures accepted { OnOk result (first_fault kind bytes.now ≡ None) }
     ensures bytes { are_bytes bytes.now ≡ true }
+    ensures found { IsLost result → ⊥ }
     ensures read { IsErrOf result Status.ReadFault → ⊥ }
     ensures write { IsErrOf result Status.WriteFault → ⊥ }
 {
@@ -76,6 +78,7 @@ fn fetch_drawing<L: Library>(
     ensures drawing { IfOk result (λ g. (files : Files) → L.files lib.old ≡ Some files → IsFileOf files good.now d g) }
     ensures same { L.files lib.new ≡ L.files lib.old }
     ensures later { L.faults lib.old ≤ L.faults lib.new }
+    ensures untold { L.files lib.old ≡ None → IsLost result → Rose (L.faults lib.old) (L.faults lib.new) }
     ensures read { IsErrOf result Status.ReadFault → Rose (L.faults lib.old) (L.faults lib.new) }
     ensures write { IsErrOf result Status.WriteFault → ⊥ }
 {
@@ -117,6 +120,7 @@ fn load_drawing<K: Film, L: Library>(
     ensures room { HasRoom good.now drawings.new }
     ensures same { L.files lib.new ≡ L.files lib.old }
     ensures later { L.faults lib.old ≤ L.faults lib.new }
+    ensures untold { L.files lib.old ≡ None → IsLost result → Rose (L.faults lib.old) (L.faults lib.new) }
     ensures read { IsErrOf result Status.ReadFault → Rose (L.faults lib.old) (L.faults lib.new) }
     ensures write { IsErrOf result Status.WriteFault → ⊥ }
 {
@@ -145,6 +149,7 @@ fn load_if_new<K: Film, L: Library>(
     ensures room { HasRoom good.now drawings.new }
     ensures same { L.files lib.new ≡ L.files lib.old }
     ensures later { L.faults lib.old ≤ L.faults lib.new }
+    ensures untold { L.files lib.old ≡ None → IsLost result → Rose (L.faults lib.old) (L.faults lib.new) }
     ensures read { IsErrOf result Status.ReadFault → Rose (L.faults lib.old) (L.faults lib.new) }
     ensures write { IsErrOf result Status.WriteFault → ⊥ }
 {
@@ -174,6 +179,7 @@ fn load_drawings<K: Film, L: Library>(
     ensures room { HasRoom good.now drawings.new }
     ensures same { L.files lib.new ≡ L.files lib.old }
     ensures later { L.faults lib.old ≤ L.faults lib.new }
+    ensures untold { L.files lib.old ≡ None → IsLost result → Rose (L.faults lib.old) (L.faults lib.new) }
     ensures read { IsErrOf result Status.ReadFault → Rose (L.faults lib.old) (L.faults lib.new) }
     ensures write { IsErrOf result Status.WriteFault → ⊥ }
 {
@@ -202,6 +208,7 @@ fn load_row<K: Film, L: Library>(
     ensures room { HasRoom good.now drawings.new }
     ensures same { L.files lib.new ≡ L.files lib.old }
     ensures later { L.faults lib.old ≤ L.faults lib.new }
+    ensures untold { L.files lib.old ≡ None → IsLost result → Rose (L.faults lib.old) (L.faults lib.new) }
     ensures read { IsErrOf result Status.ReadFault → Rose (L.faults lib.old) (L.faults lib.new) }
     ensures write { IsErrOf result Status.WriteFault → ⊥ }
 {
@@ -231,6 +238,7 @@ pub(crate) fn load_rows<K: Film, L: Library>(
     ensures room { HasRoom good.now drawings.new }
     ensures same { L.files lib.new ≡ L.files lib.old }
     ensures later { L.faults lib.old ≤ L.faults lib.new }
+    ensures untold { L.files lib.old ≡ None → IsLost result → Rose (L.faults lib.old) (L.faults lib.new) }
     ensures read { IsErrOf result Status.ReadFault → Rose (L.faults lib.old) (L.faults lib.new) }
     ensures write { IsErrOf result Status.WriteFault → ⊥ }
 {

@@ -1,6 +1,7 @@
-ghost use Rattle.std.specs.Prelude.{◌≡◌, ◌≤◌, ◌<◌, ◌+◌, ◌^◌, ◌⊎◌, [], List, ℕ, ◌++◌, Some, OnOk, IsErrOf};
+ghost use Rattle.std.specs.Prelude.{◌≡◌, ◌≤◌, ◌<◌, ◌+◌, ◌^◌, ◌⊎◌, [], List, ℕ, ◌++◌, Some, OnOk, IsErrOf, None};
 ghost use Rattle.std.specs.List.{range_with_len};
 ghost use Rattle.xs_outside.specs.Told.{Rose};
+ghost use Rattle.xs_top.specs.Causes.{IsLost};
 ghost use Rattle.xs_top.specs.Trace.{Outcome, Seen, with_asked, with_shelf};
 ghost use Rattle.xs_top.specs.Runs.{Runs};
 ghost use Rattle.xs_top.specs.Told.{Files};
@@ -47,6 +48,7 @@ fn render_section<K: Film, L: Library, S: Shelf>(
     ensures same { L.files lib.new ≡ L.files lib.old }
     ensures later { L.faults lib.old ≤ L.faults lib.new }
     ensures later_shelf { S.faults shelf.old ≤ S.faults shelf.new }
+    ensures untold { L.files lib.old ≡ None → IsLost result → Rose (L.faults lib.old) (L.faults lib.new) }
     ensures read { IsErrOf result Status.ReadFault → Rose (L.faults lib.old) (L.faults lib.new) }
     ensures write { IsErrOf result Status.WriteFault → Rose (S.faults shelf.old) (S.faults shelf.new) }
 {
@@ -78,6 +80,7 @@ fn render_sections<K: Film, L: Library, S: Shelf>(
     ensures same { L.files lib.new ≡ L.files lib.old }
     ensures later { L.faults lib.old ≤ L.faults lib.new }
     ensures later_shelf { S.faults shelf.old ≤ S.faults shelf.new }
+    ensures untold { L.files lib.old ≡ None → IsLost result → Rose (L.faults lib.old) (L.faults lib.new) }
     ensures read { IsErrOf result Status.ReadFault → Rose (L.faults lib.old) (L.faults lib.new) }
     ensures write { IsErrOf result Status.WriteFault → Rose (S.faults shelf.old) (S.faults shelf.new) }
 {
@@ -110,6 +113,7 @@ pub(crate) fn render_rows<K: Film, L: Library, S: Shelf>(
     ensures same { L.files lib.new ≡ L.files lib.old }
     ensures later { L.faults lib.old ≤ L.faults lib.new }
     ensures later_shelf { S.faults shelf.old ≤ S.faults shelf.new }
+    ensures untold { L.files lib.old ≡ None → IsLost result → Rose (L.faults lib.old) (L.faults lib.new) }
     ensures read { IsErrOf result Status.ReadFault → Rose (L.faults lib.old) (L.faults lib.new) }
     ensures write { IsErrOf result Status.WriteFault → Rose (S.faults shelf.old) (S.faults shelf.new) }
 {

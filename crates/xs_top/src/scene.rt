@@ -3,6 +3,7 @@ ghost use Rattle.xs_outside.specs.Told.{Rose};
 ghost use Rattle.xs_check.specs.Passes.{Checking};
 ghost use Rattle.xs_scene.specs.Records.{SceneRecord};
 ghost use Rattle.xs_scene_json.specs.SceneText.{scene_of};
+ghost use Rattle.xs_top.specs.Causes.{IsLost};
 ghost use Rattle.xs_top.specs.Trace.{Outcome, Seen, with_asked};
 ghost use Rattle.xs_top.specs.Runs.{Runs};
 ghost use Rattle.xs_top.specs.Scenes.{ReadsScene};
@@ -30,6 +31,7 @@ pub(crate) fn load_scene<L: Library>(
         (with_asked seen (L.asked lib.old)) (with_asked seen (L.asked lib.new)) result }
     ensures same { L.files lib.new ≡ L.files lib.old }
     ensures later { L.faults lib.old ≤ L.faults lib.new }
+    ensures untold { L.files lib.old ≡ None → IsLost result → Rose (L.faults lib.old) (L.faults lib.new) }
     ensures read { IsErrOf result Status.ReadFault → Rose (L.faults lib.old) (L.faults lib.new) }
     ensures write { IsErrOf result Status.WriteFault → ⊥ }
 {
@@ -53,6 +55,7 @@ fn read_scene(alloc: Global, bytes: &[u8]) -> Result<GoodScene, Status>
     ensures told { (verdict : Verdict) → ((s : SceneRecord) → scene_of bytes.now ≡ Ok s → Checking s (verdict s))
         → (next : SceneRecord → Outcome) (seen : Seen)
         → Runs (decoded verdict (scene_of bytes.now) next) next seen seen result }
+    ensures found { IsLost result → ⊥ }
     ensures read { IsErrOf result Status.ReadFault → ⊥ }
     ensures write { IsErrOf result Status.WriteFault → ⊥ }
 {

@@ -1,5 +1,6 @@
 ghost use Rattle.std.specs.Prelude.{◌≡◌, ◌≤◌, ◌⊎◌, false, [], List, ℕ, None, Some, Err, length, IfOk, IfErr, IfSome, IsErrOf};
 ghost use Rattle.xs_outside.specs.Told.{Rose};
+ghost use Rattle.xs_top.specs.Causes.{IsLost};
 ghost use Rattle.xs_top.specs.Trace.{Outcome, Seen, puts, with_asked, with_shelf, with_notes};
 ghost use Rattle.xs_top.specs.Runs.{Runs, is_broken};
 ghost use Rattle.xs_top.specs.Told.{Files};
@@ -52,6 +53,7 @@ pub(crate) fn place<S: Shelf>(
         Runs (placing (record { name = name.now; bytes = bytes.now }) next) (λ _. next)
         (with_shelf seen (S.objects shelf.old)) (with_shelf seen (S.objects shelf.new)) result }
     ensures later { S.faults shelf.old ≤ S.faults shelf.new }
+    ensures found { IsLost result → ⊥ }
     ensures read { IsErrOf result Status.ReadFault → ⊥ }
     ensures write { IsErrOf result Status.WriteFault → Rose (S.faults shelf.old) (S.faults shelf.new) }
 {
@@ -68,6 +70,7 @@ pub(crate) fn note<T: Notes>(alloc: Global, notes: &mut T, line: &[u8]) -> Resul
         Runs (noting line.now next) (λ _. next)
         (with_notes seen (T.written notes.old)) (with_notes seen (T.written notes.new)) result }
     ensures later { T.faults notes.old ≤ T.faults notes.new }
+    ensures found { IsLost result → ⊥ }
     ensures read { IsErrOf result Status.ReadFault → ⊥ }
     ensures write { IsErrOf result Status.WriteFault → Rose (T.faults notes.old) (T.faults notes.new) }
 {

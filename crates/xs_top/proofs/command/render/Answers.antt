@@ -1,9 +1,9 @@
-use Rattle.std.proofs.Common.{◌≡◌, ◌∙◌, ◌+◌, ◌-◌, inl, refl}
+use Rattle.std.proofs.Common.{◌∙◌, ◌+◌, ◌-◌, inl, refl}
 use Rattle.std.proofs.lemmas.Result.{err_from_is_err_and}
 use Rattle.xs_top.specs.declared.status.Status.TheVariants as answers
 use Rattle.xs_top.specs.Trace.{ended, Seen}
 use Rattle.xs_top.specs.Outcome.{rendering, rendering_scene, closing, noting}
-use Rattle.xs_top.proofs.Parts.{did_nothing, did_then, stopped_then}
+use Rattle.xs_top.proofs.Parts.{did_then, stopped_then}
 use Rattle.xs_top.proofs.Wholes.{all_placed}
 use Rattle.xs_top.proofs.command.render.Goals as goal
 

@@ -1,9 +1,9 @@
-use Rattle.std.proofs.Common.{◌≡◌, ◌∙◌, refl}
+use Rattle.std.proofs.Common.{refl}
 use Rattle.std.proofs.lemmas.Result.{err_from_is_err_and}
 use Rattle.xs_top.specs.declared.status.Status.TheVariants as answers
 use Rattle.xs_top.specs.Trace.{ended, Seen, with_asked, with_notes}
 use Rattle.xs_top.specs.Outcome.{showing, showing_scene}
-use Rattle.xs_top.proofs.Parts.{did_nothing, did_then, stopped_then}
+use Rattle.xs_top.proofs.Parts.{did_then, stopped_then}
 use Rattle.xs_top.proofs.command.show.Goals as goal
 
 pub returns-in_err-good-clause-told : goal.returns-in_err-good-clause-told

@@ -1,7 +1,7 @@
-use Rattle.std.proofs.Common.{◌≡◌, List, ℕ, sym, ◌∙◌}
+use Rattle.std.proofs.Common.{List, ℕ}
 use Rattle.std.proofs.lemmas.Result.{err_from_is_err_and}
 use Rattle.xs_rawfile.specs.declared.drawing.RawKind.{RawKind}
-use Rattle.xs_rawfile.specs.Level.{first_fault, raw_of}
+use Rattle.xs_rawfile.specs.Level.{first_fault}
 use Rattle.xs_top.specs.Trace.{Outcome}
 use Rattle.xs_top.specs.Outcome.{accepted}
 use Rattle.xs_top.proofs.Parts.{stopped_then, did_then}

@@ -1,4 +1,4 @@
-use Rattle.std.proofs.Common.{◌≡◌, sym, ap, ◌∙◌}
+use Rattle.std.proofs.Common.{sym, ap, ◌∙◌}
 use Rattle.xs_top.specs.Levels.{raw_kind_of}
 use Rattle.xs_top.proofs.Drawn.{kind_is, names_kind, filmed, holds_one, room_kept}
 use Rattle.xs_top.proofs.levels.load_drawing.Goals as goal

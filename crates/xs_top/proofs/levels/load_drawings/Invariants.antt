@@ -1,4 +1,4 @@
-use Rattle.std.proofs.Common.{◌≡◌, ◌≤◌, ℕ, List, ◌++◌, take, drop, Option, Some}
+use Rattle.std.proofs.Common.{◌≡◌, ◌≤◌, ℕ, List, ◌++◌, take, drop, Some}
 use Rattle.xs_needs.specs.Fresh.{fresh}
 use Rattle.xs_top.specs.Trace.{Outcome, Seen, with_asked}
 use Rattle.xs_top.specs.Runs.{Did}

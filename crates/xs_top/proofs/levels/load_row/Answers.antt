@@ -1,8 +1,5 @@
-use Rattle.std.proofs.Common.{◌≡◌, ◌∙◌, ◌++◌, List, ℕ, sym, ap}
 use Rattle.std.proofs.lemmas.Result.{err_from_is_err_and}
 use Rattle.xs_meaning.specs.Expressions.{drawings_of, root_of}
-use Rattle.xs_needs.specs.Fresh.{fresh, each_once}
-use Rattle.xs_top.specs.Levels.{Holds}
 use Rattle.xs_top.proofs.Parts.{did_nothing}
 use Rattle.xs_top.proofs.Listings.{fresh_once}
 use Rattle.xs_top.proofs.Drawn.{holds_once}

@@ -1,6 +1,6 @@
-use Rattle.std.proofs.Common.{◌≡◌, Some, None}
 use Rattle.xs_top.proofs.Parts.{did_nothing}
 use Rattle.xs_top.proofs.Drawn.{are_bytes_from}
+use Rattle.xs_top.proofs.LevelCodes.{level_kept}
 use Rattle.xs_top.proofs.levels.read_drawing.Goals as goal
 
 pub returns-in-Ok-clause-told : goal.returns-in-Ok-clause-told
@@ -22,3 +22,9 @@ returns-in-Err-Memory-clause-told c = λ next seen. (_, did_nothing _ _)
 
 pub returns-in-Err-Memory-clause-bytes : goal.returns-in-Err-Memory-clause-bytes
 returns-in-Err-Memory-clause-bytes c = are_bytes_from _ c.type_inv.bytes
+
+pub returns-in-Err-Code-clause-found : goal.returns-in-Err-Code-clause-found
+returns-in-Err-Code-clause-found c = λ lost.
+    let fault = rw c.in-Err-Code.field-0-is at c.in-Err-Code.ensures.fault in
+    let kept = level_kept c.args.kind c.args.bytes.now c.in-Err-Code.code fault in
+    cc

@@ -1,5 +1,4 @@
-use Rattle.std.proofs.Common.{◌≡◌, ◌<◌, ◌∙◌, length, get_or, ap, sym, arith}
-use Rattle.xs_scene.specs.Records.{ColoursRecord}
+use Rattle.std.proofs.Common.{◌≡◌, ◌<◌, length, get_or, ap, arith}
 use Rattle.xs_top.proofs.Shown.{one_more_shown, all_shown}
 use Rattle.xs_top.proofs.palettes.palettes.Goals as goal
 

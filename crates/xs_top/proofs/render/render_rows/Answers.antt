@@ -1,6 +1,4 @@
-use Rattle.std.proofs.Common.{◌≡◌, ◌∙◌, sym}
 use Rattle.std.proofs.lemmas.Result.{err_from_is_err_and}
-use Rattle.xs_top.specs.Levels.{Holds}
 use Rattle.xs_top.proofs.Parts.{did_nothing}
 use Rattle.xs_top.proofs.Sections.{holds_nothing, room_made}
 use Rattle.xs_top.proofs.render.render_rows.Goals as goal

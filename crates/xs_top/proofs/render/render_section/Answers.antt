@@ -1,8 +1,7 @@
-use Rattle.std.proofs.Common.{◌≡◌, ◌∙◌, ap, Some, List, ℕ}
+use Rattle.std.proofs.Common.{◌≡◌, ◌∙◌, ap, Some}
 use Rattle.std.specs.List.{range_with_len}
 use Rattle.std.proofs.lemmas.Result.{err_from_is_err_and}
-use Rattle.xs_meaning.specs.Drawings.{Pictures}
-use Rattle.xs_top.specs.Trace.{Outcome, Seen, with_asked, with_shelf}
+use Rattle.xs_top.specs.Trace.{Seen, with_asked, with_shelf}
 use Rattle.xs_top.specs.Levels.{film_of, needed, pictures_of}
 use Rattle.xs_top.specs.Outcome.{placing_rows}
 use Rattle.xs_top.proofs.Parts.{did_then, stopped_then}

@@ -1,10 +1,9 @@
-use Rattle.std.proofs.Common.{◌≡◌, ◌∙◌, ◌+◌, ◌-◌, ◌*◌, ◌<◌, ◌≤◌, [], List, ℕ, map, ap, sym, refl, arith}
+use Rattle.std.proofs.Common.{◌≡◌, ◌∙◌, ◌+◌, ◌-◌, ◌<◌, ◌≤◌, List, ℕ, map, refl, arith}
 use Rattle.std.specs.List.{range_with_len}
 use Rattle.std.proofs.lemmas.Result.{err_from_is_err_and}
 use Rattle.xs_scene.specs.Records.{SceneRecord}
 use Rattle.xs_top.specs.Trace.{Outcome}
 use Rattle.xs_top.specs.Told.{Files}
-use Rattle.xs_top.specs.Levels.{Holds, needed}
 use Rattle.xs_top.specs.Rows.{section_rows, sections_in, rows_before}
 use Rattle.xs_top.specs.Outcome.{rendering_sections}
 use Rattle.xs_top.proofs.Parts.{did_nothing, did_to, did_then, stopped_then}

@@ -1,4 +1,3 @@
-use Rattle.std.proofs.Common.{◌≡◌, Some, sym, ◌∙◌, inl, inr, refl}
 use Rattle.xs_top.proofs.Parts.{stopped_whole}
 use Rattle.xs_top.proofs.Answered.{found_there, found_absent, found_too_long, asked_found, asked_failed, asked_memory}
 use Rattle.xs_top.proofs.steps.ask.Goals as goal
