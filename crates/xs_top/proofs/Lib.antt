@@ -1,8 +1,12 @@
 pub mod Parts
 pub mod Answered
 pub mod Wholes
+pub mod Settled
+pub mod Cycles
 pub mod Findings
 pub mod Passes
+pub mod Deciding
+pub mod Decided
 pub mod SceneTexts
 pub mod LevelCodes
 pub mod Verdicts

@@ -167,8 +167,8 @@ fn try_run<L: Library, S: Shelf, T: Notes>(
 }
 
 /// Carries out the command that the words say, over this outside. Where the library tells its files, the
-/// answer, the names asked, the shelf and the notes are those of the outcome; a fault of the outside or
-/// want of memory leaves a front part of them.
+/// answer, the names asked, the shelf and the notes are those of the outcome by what checking finds in its
+/// scenes; a fault of the outside or want of memory leaves a front part of them.
 pub fn run<L: Library, S: Shelf, T: Notes>(
     alloc: Global,
     words: &Vec<String>,
@@ -176,8 +176,8 @@ pub fn run<L: Library, S: Shelf, T: Notes>(
     shelf: &mut S,
     notes: &mut T,
 ) -> Status
-    ensures told { (files : Files) → L.files lib.old ≡ Some files → (verdict : Verdict) → IsVerdict files verdict
-        → IsRun (outcome files verdict (map string_bytes words.now.items))
+    ensures told { (files : Files) → L.files lib.old ≡ Some files → (verdict : Verdict) × IsVerdict files verdict
+        × IsRun (outcome files verdict (map string_bytes words.now.items))
         (record { asked = L.asked lib.old; shelf = S.objects shelf.old; notes = T.written notes.old })
         (record { asked = L.asked lib.new; shelf = S.objects shelf.new; notes = T.written notes.new }) result }
 
@@ -189,10 +189,10 @@ pub fn run<L: Library, S: Shelf, T: Notes>(
         → Rose (S.faults shelf.old) (S.faults shelf.new) ⊎ Rose (T.faults notes.old) (T.faults notes.new) }
 
     // After a fault of writing that is not the shelf's, each frame stands on the shelf.
-    ensures placed { (files : Files) → L.files lib.old ≡ Some files → (verdict : Verdict) → IsVerdict files verdict
-        → result ≡ Status.WriteFault
-        → (S.objects shelf.new ≡ more (S.objects shelf.old) (puts (outcome files verdict (map string_bytes words.now.items)).work))
-        ⊎ Rose (S.faults shelf.old) (S.faults shelf.new) }
+    ensures placed { (files : Files) → L.files lib.old ≡ Some files → result ≡ Status.WriteFault
+        → (verdict : Verdict) × IsVerdict files verdict
+        × ((S.objects shelf.new ≡ more (S.objects shelf.old) (puts (outcome files verdict (map string_bytes words.now.items)).work))
+        ⊎ Rose (S.faults shelf.old) (S.faults shelf.new)) }
 {
     match try_run(alloc, words, lib, shelf, notes) {
         Ok(()) => Status::Ok,

@@ -1,5 +1,7 @@
 //! Laws of the outcome, in the words of its subject.
-ghost use Rattle.std.specs.Prelude.{◌≡◌, ◌≤◌, ◌+◌, ◌-◌, ◌++◌, ◌∷◌, [], ℕ, List, None, map};
+ghost use Rattle.std.specs.Prelude.{◌≡◌, ◌≤◌, ◌+◌, ◌-◌, ◌++◌, ◌∷◌, [], ℕ, List, Option, None, map};
+ghost use Rattle.xs_check.specs.Passes.{Checking};
+ghost use Rattle.xs_json.specs.declared.fault.SceneFault.{SceneFault};
 ghost use Rattle.xs_needs.specs.Fresh.{each_once};
 ghost use Rattle.xs_scene.specs.Records.{SceneRecord};
 ghost use Rattle.xs_top.specs.declared.status.Status.TheVariants as answers;
@@ -9,6 +11,13 @@ ghost use Rattle.xs_top.specs.Levels.{file_of, needed};
 ghost use Rattle.xs_top.specs.Rows.{rows_of, rows_before};
 ghost use Rattle.xs_top.specs.Finished.{Says, AreAccepted, frames_of};
 ghost use Rattle.xs_top.specs.Outcome.{rendered_line, rendering};
+
+/// Checking finds in each scene its first fault or nothing, and no second thing.
+pub fn checking_finds_one_thing()
+    ensures there { (s : SceneRecord) → (found : Option SceneFault) × Checking s found }
+    ensures one { (s : SceneRecord) (found other : Option SceneFault) → Checking s found → Checking s other
+        → found ≡ other }
+{}
 
 /// A render of a scene without a fault, whose rows need only drawings that are there without a fault, ends
 /// well. It has asked for the scene and then for each drawing that its rows need, once; the shelf has gained

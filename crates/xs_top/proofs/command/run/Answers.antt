@@ -1,8 +1,22 @@
+use Rattle.xs_top.specs.Told.{Files, IsVerdict}
+use Rattle.xs_top.proofs.Decided.{verdict_of, verdict_right}
 use Rattle.xs_top.proofs.Wholes.{whole_run, stopped_run}
 use Rattle.xs_top.proofs.command.run.Goals as goal
 
+is_verdict : (files : Files) → IsVerdict files verdict_of
+is_verdict files = λ name bytes s there says. verdict_right s
+
 pub returns-in-Ok-clause-told : goal.returns-in-Ok-clause-told
-returns-in-Ok-clause-told g c = λ files e verdict right. whole_run _ _ _ _ (c.in-Ok.ensures.told files e verdict right) (λ read. cc)
+returns-in-Ok-clause-told g c = λ files e.
+    (verdict_of, is_verdict files, whole_run _ _ _ _ (c.in-Ok.ensures.told files e verdict_of (is_verdict files)) (λ read. cc))
 
 pub returns-in-Err-clause-told : goal.returns-in-Err-clause-told
-returns-in-Err-clause-told g c = λ files e verdict right. stopped_run _ _ _ _ (c.in-Err.ensures.told files e verdict right)
+returns-in-Err-clause-told g c = λ files e.
+    (verdict_of, is_verdict files, stopped_run _ _ _ _ (c.in-Err.ensures.told files e verdict_of (is_verdict files)))
+
+pub returns-in-Ok-clause-placed : goal.returns-in-Ok-clause-placed
+returns-in-Ok-clause-placed g c = λ files e broken. cc
+
+pub returns-in-Err-clause-placed : goal.returns-in-Err-clause-placed
+returns-in-Err-clause-placed g c = λ files e broken.
+    (verdict_of, is_verdict files, c.in-Err.ensures.placed files e verdict_of (is_verdict files) (cc broken))
