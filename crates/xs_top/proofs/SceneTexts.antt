@@ -12,6 +12,7 @@ use Rattle.xs_json.specs.Paths.{index_at}
 use Rattle.xs_json.specs.Reading.{Reading, ◌>>=◌, fault, or_fault}
 use Rattle.xs_json.specs.Objects.{has, path_of, value_of, first_missing, known_only, none_missing, object_at, required_at, whole_at, text_at, list_at, flag_at}
 use Rattle.xs_pixel.specs.declared.operation.Op.{Op}
+use Rattle.xs_scene.specs.Names.{is_name}
 use Rattle.xs_scene.specs.declared.level.Kind.TheVariants as kind
 use Rattle.xs_scene.specs.declared.column.Shown.TheVariants as shown
 use Rattle.xs_scene.specs.declared.node.Ref.TheVariants as target
@@ -19,7 +20,7 @@ use Rattle.xs_scene.specs.declared.node.Node.TheVariants as node
 use Rattle.xs_scene_text.specs.declared.work.Work.{Work}
 use Rattle.xs_scene_text.specs.declared.work.Work.TheVariants as work
 use Rattle.xs_scene_json.specs.Fields.{field, if_there, optional_field, or_given, field_or, none_of, form_at, each_at, list_of, number_at, row_at, reference_at, offset_at, is_other_number, no_other_number}
-use Rattle.xs_scene_json.specs.SceneText.{is_newer, peg_key_fields, scene_fields, is_name, is_cm32, work_of, json_of, placements, camera_at, four_at, channel_at, style_at, style_key_at, plain_palette_at, keyed_palette_at, palette_at, name_at, is_cm32_at, kind_of, level_at, moves_only, line_at, peg_key_at, peg_at, shown_sheet_at, shown_drawing_at, shown_at, cell_at, column_at, node_number_at, column_number_at, target_at, ref_at, pair_at, card_at, shuffle_at, blur_at, filter_at, keep_at, delete_at, work_at, node_of, node_at, sheet_at, scene_at, scene_of}
+use Rattle.xs_scene_json.specs.SceneText.{is_newer, peg_key_fields, scene_fields, is_cm32, work_of, json_of, placements, camera_at, four_at, channel_at, style_at, style_key_at, plain_palette_at, keyed_palette_at, palette_at, name_at, is_cm32_at, kind_of, level_at, moves_only, line_at, peg_key_at, peg_at, shown_sheet_at, shown_drawing_at, shown_at, cell_at, column_at, node_number_at, column_number_at, target_at, ref_at, pair_at, card_at, shuffle_at, blur_at, filter_at, keep_at, delete_at, work_at, node_of, node_at, sheet_at, scene_at, scene_of}
 use Rattle.xs_top.specs.Causes.{is_lost_scene}
 
 -- a reading whose fault is no lost file
