@@ -1,5 +1,5 @@
 -- A check finds something, or finds that there is nothing.
-use Rattle.std.proofs.Common.{◌≡◌, ◌+◌, ℕ, List, [], ◌∷◌, Option, Some, None, refl, inl, inr}
+use Rattle.std.proofs.Common.{◌+◌, ℕ, List, [], ◌∷◌, Option, Some, None, refl, inl, inr}
 use Rattle.xs_json.specs.declared.code.SceneCode.{SceneCode}
 use Rattle.xs_json.specs.declared.fault.SceneFault.{SceneFault}
 use Rattle.xs_check.specs.Finding.{Finding, Nothing, Unless, Then, Each, EachAt, IfThere}

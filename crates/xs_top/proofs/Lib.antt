@@ -7,6 +7,7 @@ pub mod Findings
 pub mod Passes
 pub mod Deciding
 pub mod Decided
+pub mod OneOutcome
 pub mod SceneTexts
 pub mod LevelCodes
 pub mod Verdicts

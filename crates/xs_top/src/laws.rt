@@ -6,17 +6,23 @@ ghost use Rattle.xs_needs.specs.Fresh.{each_once};
 ghost use Rattle.xs_scene.specs.Records.{SceneRecord};
 ghost use Rattle.xs_top.specs.declared.status.Status.TheVariants as answers;
 ghost use Rattle.xs_top.specs.Trace.{Event, Ask, asks, puts, lines};
-ghost use Rattle.xs_top.specs.Told.{Files, Verdict};
+ghost use Rattle.xs_top.specs.Told.{Files, Verdict, IsVerdict};
 ghost use Rattle.xs_top.specs.Levels.{file_of, needed};
 ghost use Rattle.xs_top.specs.Rows.{rows_of, rows_before};
 ghost use Rattle.xs_top.specs.Finished.{Says, AreAccepted, frames_of};
-ghost use Rattle.xs_top.specs.Outcome.{rendered_line, rendering};
+ghost use Rattle.xs_top.specs.Outcome.{rendered_line, rendering, outcome};
 
 /// Checking finds in each scene its first fault or nothing, and no second thing.
 pub fn checking_finds_one_thing()
     ensures there { (s : SceneRecord) → (found : Option SceneFault) × Checking s found }
     ensures one { (s : SceneRecord) (found other : Option SceneFault) → Checking s found → Checking s other
         → found ≡ other }
+{}
+
+/// Each verdict over a library gives the same outcome.
+pub fn every_verdict_gives_one_outcome()
+    ensures { (files : Files) (verdict other : Verdict) → IsVerdict files verdict → IsVerdict files other
+        → (words : List (List ℕ)) → outcome files verdict words ≡ outcome files other words }
 {}
 
 /// A render of a scene without a fault, whose rows need only drawings that are there without a fault, ends
