@@ -1,4 +1,5 @@
-//! Laws of pixels, each on a function that does nothing: its contract is the law.
+//! Laws of pixels, each on a function that does nothing or only names a constant: its contract is the
+//! law.
 
 ghost use Rattle.std.specs.Prelude.{◌≡◌, ℕ, ◌+◌, ◌-◌, ◌*◌, ◌≤◌};
 ghost use Rattle.xs_pixel.specs.Channels.{Channels, IsPixel, clear};
@@ -6,6 +7,14 @@ ghost use Rattle.xs_pixel.specs.Operations.{product, over_of, add_of, sub_of, mu
 ghost use Rattle.xs_pixel.specs.declared.operation.Op.{Op};
 
 use crate::list::List;
+use crate::pixel::Pixel;
+
+/// The clear pixel has no colour and no matte.
+pub fn clear_pixel_has_no_channel() -> Pixel
+    ensures { result ≡ clear }
+{
+    Pixel::CLEAR
+}
 
 /// A clear pixel under each operation that adds to what there is leaves the other input.
 pub fn clear_input_vanishes()

@@ -1,5 +1,5 @@
-//! Pixels and the eight operations on them, lists that may cross threads, and the one error for
-//! want of memory. Every other crate stands on this one.
+//! Pixels and the eight operations on them, lists that may cross threads, and the error for want of
+//! memory.
 #![tactic(auto)]
 
 pub mod film;

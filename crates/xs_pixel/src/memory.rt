@@ -1,11 +1,18 @@
-use std::alloc::AllocError;
+use std::alloc::{AllocError, AllocFailed};
 
-/// Memory was wanted and there was none. The one error that every call which allocates may give.
+/// Memory was wanted and there was none.
 #[derive(Clone, Copy, Debug, PartialEq, Eq)]
 pub struct Memory;
 
 impl From<AllocError> for Memory {
     fn from(_error: AllocError) -> Self {
+        Memory
+    }
+}
+
+/// The value that found no place is let go.
+impl<T: Drop> From<AllocFailed<T>> for Memory {
+    fn from(_error: AllocFailed<T>) -> Self {
         Memory
     }
 }

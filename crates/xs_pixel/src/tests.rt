@@ -5,7 +5,7 @@ use crate::memory::Memory;
 use crate::operation::{Op, apply};
 use crate::pixel::Pixel;
 use crate::style::Style;
-use std::alloc::AllocError;
+use std::alloc::{AllocError, AllocFailed};
 use std::test::Fail;
 
 /// An operation, its upper and lower pixel, and the result.
@@ -90,5 +90,6 @@ fn lists_lend_and_give_back_their_items(rt: HostRuntime) -> Result<(), Fail> {
     assert_eq!(rt; list.items(), [1, 2, 3].as_slice());
     assert_eq!(rt; list.into_items().len(), 3);
     assert_eq!(rt; Memory::from(AllocError), Memory);
+    assert_eq!(rt; Memory::from(AllocFailed { value: 7u8 }), Memory);
     Ok(())
 }
