@@ -41,6 +41,7 @@ impl Palette {
     /// written for it.
     pub fn from_styles(alloc: Global, styles: &[Style]) -> Result<Palette, PaletteFault>
         ensures styles { IfOk result (λ p. style_of p ≡ style_of (written styles.now)) }
+        ensures size { IfOk result (λ p. length p ≡ length styles.now + 1) }
         ensures too_many { IsErrOf result PaletteFault.TooMany ↔ (MOST_STYLES < length styles.now) }
     {
         if styles.len() > MOST_STYLES {

@@ -1,6 +1,7 @@
-use Rattle.std.proofs.Common.{◌≡◌, ◌+◌, length, arith}
+use Rattle.std.proofs.Common.{◌≡◌, ◌+◌, length, sym, arith}
 use Rattle.std.proofs.Math.Path.{fun_ext}
 use Rattle.std.proofs.lemmas.List.{length-map}
+use Rattle.xs_pixel.proofs.Rows.{length-pixels}
 use Rattle.xs_palette.specs.Styles.{written}
 use Rattle.xs_palette.proofs.Filling.{shows_more, IsTable-from_Shows, style_of-table}
 use Rattle.xs_palette.proofs.palette.Palette.from_styles.Goals as goal
@@ -20,3 +21,8 @@ pub returns-clause-styles : goal.returns-clause-styles
 returns-clause-styles c =
     let all : c.loop-id.id ≡ length c.args.styles.now + 1 = omega arith in
     fun_ext (style_of-table (written c.args.styles.now) (length c.args.styles.now) _ (length-map _ _) (rw all at c.loop-id.invariant))
+
+pub returns-clause-size : goal.returns-clause-size
+returns-clause-size c =
+    let all : c.loop-id.id ≡ length c.args.styles.now + 1 = omega arith in
+    rw (sym all) (length-pixels c.loop-id.id _ c.loop-id.invariant.count)
