@@ -3,7 +3,6 @@ use Rattle.std.proofs.Common.{◌≡◌, ℕ, zero, suc, ◌+◌, ◌*◌, ◌�
 use Rattle.std.proofs.lemmas.Int.{ints}
 use Rattle.std.specs.Simd.Lanes.{chunk}
 use Rattle.xs_cm32.specs.Rows.{words}
-use Rattle.xs_pixel.specs.Channels.{Channels, clear}
 use Rattle.xs_pixel.specs.Picture.{Picture, is_in_box, place_in_box, at_point}
 use Rattle.xs_rect.specs.Area.{area, Lies}
 use Rattle.xs_raster.proofs.Points.{place_fits}

@@ -1,5 +1,5 @@
 -- What a file without a fault holds.
-use Rattle.std.proofs.Common.{◌≡◌, ℕ, ◌+◌, ◌*◌, ◌^◌, ◌<◌, ◌≤◌, ℤ, pos, neg_ℤ, int_le, Bool, true, false, nat_lt, nat_le, Option, Some, None, List, ◌∷◌, length, drop, w32, refl, arith}
+use Rattle.std.proofs.Common.{◌≡◌, ℕ, ◌+◌, ◌*◌, ◌^◌, ◌<◌, ◌≤◌, ℤ, pos, neg_ℤ, int_le, Bool, true, false, nat_lt, nat_le, Option, Some, None, List, [], ◌∷◌, zero, suc, length, drop, w32, refl, arith}
 use Rattle.std.specs.Int.{cast_signed}
 use Rattle.std.specs.Option.{option_map}
 use Rattle.std.specs.Simd.Lanes.{Each1}
@@ -95,6 +95,16 @@ holds_raw kind bytes bound h =
       whole = omega (arith, length-drop 21 bytes, long.1);
       fills = fills_from_no_fault kind (drop 21 bytes) bound p.filled;
     }
+
+-- the bytes from a place on are bytes
+bytes_behind : (n : ℕ) (bytes : List ℕ) → Each1 (λ b. b < 256) bytes → Each1 (λ b. b ≤ 255) (drop n bytes)
+bytes_behind zero [] each = tt
+bytes_behind (suc n) [] each = tt
+bytes_behind zero (b ∷ bytes) each = (omega (arith, each.0), bytes_behind zero bytes each.1)
+bytes_behind (suc n) (b ∷ bytes) each = bytes_behind n bytes each.1
+
+pub file_holds_raw : (kind : RawKind) (bytes : List ℕ) → Each1 (λ b. b < 256) bytes → first_fault kind bytes ≡ None → IsRaw (raw_of kind bytes)
+file_holds_raw kind bytes each = holds_raw kind bytes (bytes_behind 21 bytes each)
 
 -- the bytes of its pixels are few enough for their numbers
 pub pixels_few : (bytes : List ℕ) → has_wrong_side bytes ≡ false → has_wrong_length bytes ≡ false → length (drop 21 bytes) < 2 ^ 32

@@ -5,7 +5,7 @@ use Rattle.xs_pixel.specs.Channels.{Channels}
 use Rattle.xs_pixel.specs.Picture.{Picture}
 use Rattle.xs_rawfile.specs.declared.drawing.RawKind.{RawKind}
 use Rattle.xs_rawfile.specs.Raw.{Raw, IsRaw}
-use Rattle.xs_rawfile.specs.Held.{Held, held, slot_in, IsIn, IsHeld, Names, picture_of}
+use Rattle.xs_rawfile.specs.Held.{Held, held, IsIn, IsHeld, Names, picture_of}
 
 -- a written item is read back, and every other stays
 pub slice_get-set_same : {A : Type 0} (xs : List A) (i : ℕ) (x y : A) → slice_get (slice_set xs i x) i ≡ Some y → x ≡ y

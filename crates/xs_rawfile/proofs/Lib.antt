@@ -2,6 +2,6 @@ pub mod Blocks
 pub mod Boxes
 pub mod Faults
 pub mod Holding
-pub mod Laws
+pub mod ReadBack
 pub mod Scanning
 pub mod Truths

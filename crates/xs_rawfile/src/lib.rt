@@ -5,6 +5,7 @@ pub mod drawing;
 pub mod drawings;
 pub mod fault;
 pub mod frame;
+pub mod laws;
 pub mod level;
 mod premultiplied;
 mod shown;

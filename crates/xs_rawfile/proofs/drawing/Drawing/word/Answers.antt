@@ -1,4 +1,4 @@
-use Rattle.std.proofs.Common.{◌≡◌, ℕ, Option, Some, None, List, map, w32, get_or, refl, sym, ap, ◌∙◌}
+use Rattle.std.proofs.Common.{ℕ, Option, Some, None, List, map, w32, get_or, refl, sym, ap, ◌∙◌}
 use Rattle.std.proofs.lemmas.Int.{to_z-of_z}
 use Rattle.xs_rawfile.specs.Held.{plain_picture, words_of}
 use Rattle.xs_rawfile.proofs.Boxes.{item_inside, item_outside}
