@@ -1,12 +1,28 @@
 #!/bin/sh
-# Times decode and encode on scene texts of 1, 4 and 16 MiB, and prints a table.
+# Times decode and encode on scene texts of 1, 4 and 16 MiB, and prints a table with the most memory that
+# the program held, as a multiple of the text. The texts are bare cells without a blank, and scenes like
+# the sample walk, indented as json.dumps(.., indent=2) does it, and all on one line.
 # Run it at the top of the repository, after `rt ci xs_timing` or `rt run` in crates/xs_timing has
 # proved and built the program.
 set -eu
-program=crates/xs_timing/out/xs_timing
-printf '%-8s %12s %14s %10s\n' part bytes microseconds 'MiB/s'
-for part in decode encode; do
-    for size in 1 4 16; do
-        "$program" "$part" "$size" | awk '{ printf "%-8s %12d %14d %10.1f\n", $1, $2, $4, $2 / 1.048576 / $4 }'
-    done
-done
+python3 - crates/xs_timing/out/xs_timing <<'END'
+import subprocess, sys
+
+PROGRAM = sys.argv[1]
+
+def measure(part, mib):
+    """The bytes of the text, the seconds of the part alone and the most memory of the program, by a child of its own."""
+    code = ("import resource, subprocess, sys; "
+            "out = subprocess.run(sys.argv[1:], capture_output=True, text=True, check=True).stdout.split(); "
+            "print(out[1], out[3], resource.getrusage(resource.RUSAGE_CHILDREN).ru_maxrss)")
+    words = [sys.executable, "-c", code, PROGRAM, part, str(mib)]
+    size, micros, kib = subprocess.run(words, capture_output=True, text=True, check=True).stdout.split()
+    return int(size), int(micros) / 1e6, int(kib) * 1024
+
+print("%-16s %10s %9s %8s %11s %8s" % ("part", "bytes", "seconds", "MiB/s", "memory", "of text"))
+for part in ("decode", "decode-line", "decode-indented", "encode"):
+    for mib in (1, 4, 16):
+        size, seconds, most = measure(part, mib)
+        print("%-16s %10d %9.3f %8.1f %7.0f MiB %8.1f"
+              % (part, size, seconds, size / 2**20 / seconds, most / 2**20, most / size))
+END

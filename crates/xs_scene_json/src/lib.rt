@@ -4,7 +4,7 @@
 
 mod scene;
 
-pub use scene::{decode, encode};
+pub use scene::{decode, encode, text_faults};
 
 #[cfg(test)]
 mod tests;

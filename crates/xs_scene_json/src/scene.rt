@@ -1,10 +1,12 @@
-ghost use Rattle.std.specs.Prelude.{◌≡◌, [], Ok, IfOk};
+ghost use Rattle.std.specs.Prelude.{◌≡◌, ℕ, List, [], true, Ok, Err, IfOk};
 ghost use Rattle.serde_json.specs.View.{view};
 ghost use Rattle.xs_json.specs.declared.code.SceneCode.TheVariants as code;
+ghost use Rattle.xs_json.specs.declared.fault.SceneFault.{SceneFault};
 ghost use Rattle.xs_json.specs.Reading.{Gives, or_fault};
 ghost use Rattle.serde_json.specs.Written.{compact_text};
 ghost use Rattle.xs_scene_text.specs.SceneText.{json_of, scene_of};
 ghost use Rattle.xs_scene_text.specs.SceneData.{scene_data};
+ghost use Rattle.xs_scene_json.specs.Faults.{is_text_code};
 
 use serde_json::{Category, Value};
 use std::alloc::Global;
@@ -36,6 +38,13 @@ pub fn decode(alloc: Global, bytes: &[u8]) -> Result<Scene, FieldFault>
     let value = json(alloc, bytes)?;
     read_scene(alloc, &value, &Path::root(alloc))
 }
+
+/// The fault of a text has one of the six codes that `decode` gives: it is never one of a scene that was
+/// read, nor one of a file.
+pub fn text_faults()
+    ensures { (bytes : List ℕ) (fault : SceneFault) → scene_of bytes ≡ Err fault
+        → is_text_code fault.code ≡ true }
+{}
 
 /// The one text of a scene: compact, the keys of each object in the order of their bytes, in the scene's
 /// own format, without what goes without saying. `decode` reads it as the scene.

@@ -6,6 +6,7 @@ mod checking;
 mod frame;
 mod kernels;
 mod scene_text;
+mod script;
 mod sharing;
 mod tiles;
 
@@ -23,6 +24,8 @@ fn time_text<R: Print + Clock + AllocGlobal>(
     };
     match part {
         "decode" => scene_text::time_decode(rt, rt.alloc(), size),
+        "decode-indented" => scene_text::time_indented(rt, rt.alloc(), size),
+        "decode-line" => scene_text::time_one_line(rt, rt.alloc(), size),
         _ => scene_text::time_encode(rt, rt.alloc(), size),
     }
 }
@@ -37,7 +40,9 @@ fn main(rt: HostRuntime) -> io::Result<()> {
             "kernel-bytes" => kernels::write_bytes(&rt, rt.alloc()),
             "check" => checking::time(&rt, rt.alloc()),
             "needs" => sharing::time_needs(&rt, rt.alloc()),
-            "decode" | "encode" => time_text(&rt, part.as_str(), words.next()),
+            "decode" | "decode-indented" | "decode-line" | "encode" => {
+                time_text(&rt, part.as_str(), words.next())
+            }
             other => println!(rt; "xs_timing: there is no part {other}"),
         },
     }

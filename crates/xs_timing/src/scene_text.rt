@@ -1,5 +1,6 @@
 //! Reading and writing scene texts.
 
+use crate::script::{Layout, script_text};
 use std::alloc::{AllocError, Global};
 use std::io;
 use std::rt::Clock;
@@ -7,8 +8,8 @@ use std::time::Instant;
 use xs_scene::Scene;
 use xs_scene_json::{decode, encode};
 
-/// A scene text of about so many bytes: one column of cells.
-fn scene_text(alloc: Global, size: usize) -> Result<String, AllocError> {
+/// A scene text of about so many bytes, without a blank: one column of cells.
+fn bare_text(alloc: Global, size: usize) -> Result<String, AllocError> {
     let mut text = String::from_str(
         alloc,
         r#"{"format":1,"camera":{"w":1920,"h":1080},"palettes":[],"levels":[],"sheets":[{"columns":[{"cells":["#,
@@ -33,19 +34,45 @@ fn scene_of(alloc: Global, text: &str) -> io::Result<Scene> {
     }
 }
 
-/// Prints how long `decode` takes on a text of so many MiB.
-pub fn time_decode(rt: &(impl Print + Clock), alloc: Global, mib: u16) -> io::Result<()> {
-    let text = scene_text(alloc, usize::from(mib) * 1024 * 1024)?;
+fn size_of(mib: u16) -> usize {
+    usize::from(mib) * 1024 * 1024
+}
+
+/// Prints how long `decode` takes on a text.
+fn time_reading(
+    rt: &(impl Print + Clock),
+    alloc: Global,
+    part: &str,
+    text: &str,
+) -> io::Result<()> {
     let start = Instant::now(rt)?;
-    let scene = scene_of(alloc, text.as_str())?;
+    let scene = scene_of(alloc, text)?;
     let micros = start.elapsed(rt)?.as_micros();
     drop(scene);
-    println!(rt; "decode {} bytes {micros} microseconds", text.len())
+    println!(rt; "{part} {} bytes {micros} microseconds", text.len())
+}
+
+/// Prints how long `decode` takes on bare cells of so many MiB.
+pub fn time_decode(rt: &(impl Print + Clock), alloc: Global, mib: u16) -> io::Result<()> {
+    let text = bare_text(alloc, size_of(mib))?;
+    time_reading(rt, alloc, "decode", text.as_str())
+}
+
+/// Prints how long `decode` takes on an indented scene of so many MiB.
+pub fn time_indented(rt: &(impl Print + Clock), alloc: Global, mib: u16) -> io::Result<()> {
+    let text = script_text(alloc, Layout::Indented, size_of(mib))?;
+    time_reading(rt, alloc, "decode-indented", text.as_str())
+}
+
+/// Prints how long `decode` takes on a scene on one line of so many MiB.
+pub fn time_one_line(rt: &(impl Print + Clock), alloc: Global, mib: u16) -> io::Result<()> {
+    let text = script_text(alloc, Layout::OneLine, size_of(mib))?;
+    time_reading(rt, alloc, "decode-line", text.as_str())
 }
 
 /// Prints how long `encode` takes on the scene of a text of so many MiB.
 pub fn time_encode(rt: &(impl Print + Clock), alloc: Global, mib: u16) -> io::Result<()> {
-    let text = scene_text(alloc, usize::from(mib) * 1024 * 1024)?;
+    let text = bare_text(alloc, size_of(mib))?;
     let scene = scene_of(alloc, text.as_str())?;
     let start = Instant::now(rt)?;
     let Ok(bytes) = encode(alloc, &scene) else {
