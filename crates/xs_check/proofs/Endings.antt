@@ -1,12 +1,8 @@
-use Rattle.std.proofs.Common.{◌≡◌, ◌≢◌, ◌<◌, ◌≤◌, ◌+◌, ℕ, zero, suc, Bool, true, false, ◌||◌, Option, Some, None, List, [], ◌∷◌, ◌++◌, All, AllPairs, Contains, length, map, get_or, flat_map, slice_get, refl, sym, ◌∙◌, ap, subst, eqb, arith}
+use Rattle.std.proofs.Common.{◌≡◌, ◌<◌, ℕ, zero, suc, Bool, true, false, ◌||◌, Option, Some, None, List, [], ◌∷◌, ◌++◌, All, Contains, length, map, get_or, flat_map, slice_get, refl, sym, ◌∙◌, subst, inl, inr, arith}
 use Rattle.std.proofs.Math.ListN.{get_or-map}
-use Rattle.std.proofs.lemmas.Bool.{false≢true, eqb-true}
-use Rattle.std.proofs.lemmas.Bool.Decides.{Decides-eqb}
+use Rattle.std.proofs.lemmas.Bool.{false≢true, cases_Bool}
 use Rattle.std.proofs.lemmas.List.Elements.{Contains-append_left, Contains-append_right}
-use Rattle.std.proofs.lemmas.List.Folds.{Any-from_list_any, list_any-from_Any}
-use Rattle.std.proofs.lemmas.List.Kept.{AllPairs-cons}
-use Rattle.std.proofs.lemmas.Map.Made.{IsDistinct-from_AllPairs}
-use Rattle.std.proofs.lemmas.Map.Steps.{length-le_from_distinct_below}
+use Rattle.std.proofs.lemmas.List.Folds.{list_any-from_Any}
 use Rattle.std.specs.List.{list_any}
 use Rattle.std.specs.Option.{option_to_list}
 use Rattle.xs_scene.specs.declared.column.Shown.{Shown}
@@ -19,61 +15,8 @@ use Rattle.xs_scene.specs.Records.{SheetRecord, ColumnRecord, ExposureRecord, Pe
 use Rattle.xs_meaning.specs.Places.{no_peg, peg_at}
 use Rattle.xs_meaning.specs.Walk.{no_sheet, sheet_at}
 use Rattle.xs_meaning.specs.Ends.{InputsHave, NodesEnd, ShownHas, SheetsEnd, PegsEnd}
-use Rattle.xs_check.specs.Ways.{Links, named_by, Leads, Reaches, LiesOnCycle, has_chain}
+use Rattle.xs_graph.specs.Paths.{successors, has_chain}
 use Rattle.xs_check.specs.Links.{parent_links, node_in, nodes_in, input_links, sheet_in, sheets_in, sheet_links}
-use Rattle.xs_check.proofs.Chains.{bool_cases}
-
--- ---- without a cycle a way has no more points than there are things
-
-module _ (links : Links) (inside : (a c : ℕ) → Contains (named_by links a) c → c < length links) (acyclic : (a : ℕ) → a < length links → LiesOnCycle links a → ⊥) where
-  unfoldable points : (steps a b : ℕ) → Leads links steps a b → List ℕ
-  unfolding Leads
-  points zero a b way = a ∷ []
-  points (suc steps) a b (c, named, way) = a ∷ points steps c b way
-
-  points_length : (steps a b : ℕ) (way : Leads links steps a b) → length (points steps a b way) ≡ suc steps
-  unfolding Leads points
-  points_length zero a b way = refl
-  points_length (suc steps) a b (c, named, way) = ap suc (points_length steps c b way)
-
-  point_reached : (steps a b : ℕ) (way : Leads links steps a b) (k d : ℕ) → k < length (points steps a b way)
-      → (j : ℕ) × Leads links j a (get_or (points steps a b way) k d)
-  unfolding Leads points
-  point_reached zero a b way zero d below = (0, refl)
-  point_reached zero a b way (suc k) d below = absurd (omega arith)
-  point_reached (suc steps) a b (c, named, way) zero d below = (0, refl)
-  point_reached (suc steps) a b (c, named, way) (suc k) d below =
-      let (j, rest) = point_reached steps c b way k d (omega arith) in
-      (suc j, (c, named, rest))
-
-  point_below : (steps a b : ℕ) (way : Leads links steps a b) → a < length links → (k d : ℕ) → k < length (points steps a b way)
-      → get_or (points steps a b way) k d < length links
-  unfolding Leads points
-  point_below zero a b way here zero d below = here
-  point_below zero a b way here (suc k) d below = absurd (omega arith)
-  point_below (suc steps) a b (c, named, way) here zero d below = here
-  point_below (suc steps) a b (c, named, way) here (suc k) d below = point_below steps c b way (inside a c named) k d (omega arith)
-
-  points_differ : (steps a b : ℕ) (way : Leads links steps a b) → a < length links → AllPairs (λ x y. x ≢ y) (points steps a b way)
-  unfolding Leads points
-  points_differ zero a b way here = λ i j d less below. absurd (omega arith)
-  points_differ (suc steps) a b (c, named, way) here =
-      AllPairs-cons (λ (x : ℕ) (y : ℕ). x ≢ y) a (points steps c b way)
-      (λ k d below same.
-      let (j, rest) = point_reached steps c b way k d below in
-      acyclic a here (record { steps = j; way = (c, named, subst (λ (x : ℕ). Leads links j c x) (sym same) rest) }))
-      (points_differ steps c b way (inside a c named))
-
-  pub no_long_way : (steps a b : ℕ) → Leads links steps a b → a < length links → length links ≤ steps → ⊥
-  no_long_way steps a b way here long =
-      let most : length (points steps a b way) ≤ length links =
-      length-le_from_distinct_below (points steps a b way) (length links)
-      (IsDistinct-from_AllPairs Decides-eqb (points steps a b way) (points_differ steps a b way here))
-      (λ q found.
-      let (k, x, below, is, same) = Any-from_list_any (eqb q) (points steps a b way) found in
-      subst (λ (y : ℕ). y < length links) (is ∙ sym (eqb-true q x same)) (point_below steps a b way here k x below)) in
-      let long_is = points_length steps a b way in
-      omega arith
 
 -- ---- chains that end
 
@@ -83,8 +26,10 @@ or_false false c h = refl
 
 none_at : (p : ℕ → Bool) (xs : List ℕ) (x : ℕ) → list_any p xs ≡ false → Contains xs x → p x ≡ false
 none_at p xs x none (k, below, is) =
-    bool_cases (p x) (p x ≡ false)
-    (λ found. absurd (false≢true (sym none ∙ list_any-from_Any p xs (k, x, below, is, found)))) (λ h. h)
+    elim (cases_Bool (p x)) [
+      | inl found ↦ absurd (false≢true (sym none ∙ list_any-from_Any p xs (k, x, below, is, found)))
+      | inr h ↦ h
+    ]
 
 parent_ends : (k : SheetRecord) (m : ℕ) (peg : Option ℕ) → ((i : ℕ) → has_chain (parent_links k) m i ≡ false → PegsEnd k m (Some i))
     → list_any (has_chain (parent_links k) m) (option_to_list peg) ≡ false → PegsEnd k m peg
@@ -92,7 +37,7 @@ unfolding PegsEnd
 parent_ends k m None rest h = tt
 parent_ends k m (Some i) rest h = rest i (or_false (has_chain (parent_links k) m i) false h)
 
-parent_named : (k : SheetRecord) (i : ℕ) → named_by (parent_links k) i ≡ option_to_list (peg_at k i).parent
+parent_named : (k : SheetRecord) (i : ℕ) → successors (parent_links k) i ≡ option_to_list (peg_at k i).parent
 parent_named k i = get_or-map (λ (peg : PegRecord). option_to_list peg.parent) k.pegs i no_peg
 
 pub pegs_end : (k : SheetRecord) (m i : ℕ) → has_chain (parent_links k) m i ≡ false → PegsEnd k m (Some i)
@@ -114,7 +59,7 @@ shown_has : (P : ℕ → Type 0) (shown : Shown) → ((sheet : ℕ) → Contains
 shown_has P (Drawing level index) h = tt
 shown_has P (Sheet sheet start) h = h sheet (0, omega arith, refl)
 
-sheets_named : (sheets : List SheetRecord) (k : ℕ) → named_by (sheet_links sheets) k ≡ sheets_in (sheet_at sheets k)
+sheets_named : (sheets : List SheetRecord) (k : ℕ) → successors (sheet_links sheets) k ≡ sheets_in (sheet_at sheets k)
 sheets_named sheets k = get_or-map sheets_in sheets k no_sheet
 
 pub sheets_end : (sheets : List SheetRecord) (d k : ℕ) → has_chain (sheet_links sheets) d k ≡ false → SheetsEnd sheets d k
@@ -163,4 +108,4 @@ unfolding has_chain NodesEnd
 nodes_end k zero n h = absurd (false≢true (sym h))
 nodes_end k (suc m) n h =
     inputs_at (NodesEnd k m) k.nodes n (columns_end k m)
-    (λ i named. nodes_end k m i (none_at (has_chain (input_links k) m) (named_by (input_links k) n) i h named))
+    (λ i named. nodes_end k m i (none_at (has_chain (input_links k) m) (successors (input_links k) n) i h named))

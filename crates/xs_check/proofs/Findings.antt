@@ -9,7 +9,7 @@ use Rattle.xs_json.specs.Paths.{index_at}
 use Rattle.xs_json.specs.Reading.{Tells}
 use Rattle.std.proofs.lemmas.Bool.{cases_lt}
 use Rattle.xs_check.specs.Finding.{Finding, Finds, Unless, Then, Each, TellsFirst}
-use Rattle.xs_check.specs.Ways.{IsFirstWithout}
+use Rattle.xs_graph.specs.First.{IsFirstWithout}
 
 -- what one check finds, another one finds
 pub record Covers (F G : Finding) : Type 0 where

@@ -5,7 +5,8 @@ use Rattle.xs_json.specs.declared.code.SceneCode.TheVariants as code
 use Rattle.xs_json.specs.declared.fault.FieldFault.{FieldFault}
 use Rattle.xs_check.specs.Finding.{Finds, TellsFirst}
 use Rattle.xs_check.specs.Passes.{NoCycles, NoLongChains}
-use Rattle.xs_check.specs.Ways.{Links, LiesOnCycle, HasChain, IsFirstWithout}
+use Rattle.xs_graph.specs.First.{IsFirstWithout}
+use Rattle.xs_graph.specs.Paths.{Links, LiesOnCycle, HasChain}
 use Rattle.xs_check.proofs.Findings.{first_told}
 
 module _ {A : Type 0} (named : A → List ℕ) (at : List ℕ) (xs : List A) (links : Links) (first : Option ℕ) (r : Result (Unit {0}) FieldFault) (is : links ≡ map named xs) where

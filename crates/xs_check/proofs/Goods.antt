@@ -1,6 +1,6 @@
-use Rattle.std.proofs.Common.{◌≡◌, ◌≢◌, ◌<◌, ◌≤◌, ◌+◌, ◌⊎◌, ℕ, zero, suc, Bool, true, false, Option, Some, None, IfSome, List, [], ◌∷◌, All, AllPairs, Contains, length, map, get_or, take, refl, sym, ◌∙◌, ap, subst, inl, inr, arith}
+use Rattle.std.proofs.Common.{◌≡◌, ◌≢◌, ◌<◌, ◌≤◌, ◌+◌, ◌⊎◌, ◌↔◌, ℕ, zero, suc, Bool, true, false, Option, Some, None, IfSome, List, [], ◌∷◌, All, AllPairs, Contains, length, map, get_or, take, refl, sym, ◌∙◌, ap, subst, inl, inr, arith}
 use Rattle.std.proofs.Math.ListN.{get_or-map}
-use Rattle.std.proofs.lemmas.Bool.{cases_lt}
+use Rattle.std.proofs.lemmas.Bool.{cases_lt, cases_Bool}
 use Rattle.std.proofs.lemmas.List.{get_or-take, get_or_past, length-map, length-take}
 use Rattle.std.proofs.lemmas.List.Elements.{Contains-append_cases}
 use Rattle.xs_json.specs.Objects.{path_of}
@@ -21,13 +21,13 @@ use Rattle.xs_scene.specs.Records.{SceneRecord, SheetRecord, ColumnRecord, Expos
 use Rattle.xs_meaning.specs.Walk.{no_sheet, sheet_at}
 use Rattle.xs_meaning.specs.Ends.{InputsHave, AllEnd, NodesEnd, SheetsEnd, PegsEnd}
 use Rattle.xs_check.specs.Finding.{Finding, Unless, Then, Each, EachAt, IfThere}
-use Rattle.xs_check.specs.Good.{IsGood, IsGoodSheet, IsGoodColumn, IsGoodNode, IsGoodPeg, IsGoodPalette, HasFewEntries, HasPalette, IsThere, Targets, files_of, level_at, AreApart, DifferInRow, DifferInRowOrStyle}
+use Rattle.xs_index.specs.Apart.{AreApart, DifferInRow, DifferInRowOrStyle}
+use Rattle.xs_check.specs.Good.{IsGood, IsGoodSheet, IsGoodColumn, IsGoodNode, IsGoodPeg, IsGoodPalette, HasFewEntries, HasPalette, IsThere, Targets, files_of, level_at}
 use Rattle.xs_check.specs.Links.{parent_links, input_links, node_in, nodes_in, sheet_links, sheets_in}
 use Rattle.xs_check.specs.Passes as pass
 use Rattle.xs_check.specs.Passes.{EachApart, FilesApart, NoLongChains, NoCycles, CellReferences, LevelReference}
-use Rattle.xs_check.specs.Ways.{Links, named_by, LiesOnCycle, HasChain, has_chain}
-use Rattle.xs_check.proofs.Chains.{chain_missing}
-use Rattle.xs_check.proofs.Endings.{no_long_way, pegs_end, sheets_end, nodes_end}
+use Rattle.xs_graph.specs.Paths.{Links, successors, LiesOnCycle, HasChain, has_chain}
+use Rattle.xs_check.proofs.Endings.{pegs_end, sheets_end, nodes_end}
 
 -- ---- what it means that nothing was found
 
@@ -71,11 +71,25 @@ each_number G [] i n k none below is = absurd (omega arith)
 each_number G (x ∷ xs) i n zero none below is = let same : i ≡ n = omega arith in subst (λ (m : ℕ). G m None) same none.0
 each_number G (x ∷ xs) i n (suc k) none below is = each_number G xs (i + 1) n k none.1 (omega arith) (omega arith)
 
-not_long : {A : Type 0} (most : ℕ) (links : Links) (at : List ℕ) (xs : List A) → NoLongChains most links at xs None
+-- the test for a chain tells whether one begins at a node
+abbrev pub ChainsTold : Type 0
+ChainsTold = (links : Links) (steps a : ℕ) → (has_chain links steps a ≡ true) ↔ HasChain links steps a
+
+-- without a cycle a chain has fewer steps than there are nodes
+abbrev pub ChainsShort : Type 0
+ChainsShort =
+    (links : Links) → ((a c : ℕ) → Contains (successors links a) c → c < length links) → ((a : ℕ) → a < length links → LiesOnCycle links a → ⊥)
+    → (steps a : ℕ) → a < length links → HasChain links steps a → steps < length links
+
+chain_missing : ChainsTold → (links : Links) (steps a : ℕ) → (HasChain links steps a → ⊥) → has_chain links steps a ≡ false
+chain_missing told links steps a none =
+    elim (cases_Bool (has_chain links steps a)) [ inl begins ↦ absurd (none ((told links steps a).0 begins)) | inr missing ↦ missing ]
+
+not_long : ChainsTold → {A : Type 0} (most : ℕ) (links : Links) (at : List ℕ) (xs : List A) → NoLongChains most links at xs None
     → (k : ℕ) → k < length xs → has_chain links most k ≡ false
 unfolding NoLongChains
-not_long most links at xs none k below =
-    chain_missing links most k
+not_long told most links at xs none k below =
+    chain_missing told links most k
     (each_number (λ i. Unless code.TooMany (index_at at i) (HasChain links most i → ⊥)) xs 0 k k none below (omega arith))
 
 not_cyclic : {A : Type 0} (fault : SceneCode) (links : Links) (at : List ℕ) (xs : List A) → NoCycles fault links at xs None
@@ -223,24 +237,25 @@ named_inside k [] good i n (j, below, is) = absurd (omega arith)
 named_inside k (node ∷ list) good zero n c = input_inside k node n (good 0 node (omega arith)).inputs c
 named_inside k (node ∷ list) good (suc i) n c = named_inside k list (λ j d below. good (suc j) d (omega arith)) i n c
 
-sheet_nodes_end : (k : SheetRecord) (at : List ℕ) → All (IsGoodNode k) k.nodes → pass.SheetNodeCycles at k None
+sheet_nodes_end : ChainsTold → ChainsShort → (k : SheetRecord) (at : List ℕ) → All (IsGoodNode k) k.nodes → pass.SheetNodeCycles at k None
     → (n : ℕ) → n < length k.nodes → NodesEnd k (length k.nodes) (ToNode n)
-sheet_nodes_end k at good none n below =
+sheet_nodes_end told short k at good none n below =
     let links_length : length (input_links k) ≡ length k.nodes = length-map k.nodes nodes_in in
     nodes_end k (length k.nodes) n
-    (chain_missing (input_links k) (length k.nodes) n
+    (chain_missing told (input_links k) (length k.nodes) n
     (λ chain.
-    no_long_way (input_links k)
+    let fewer = short (input_links k)
     (λ a c named. rw links_length (named_inside k k.nodes good a c named))
     (λ a inside. not_cyclic code.NodeCycle (input_links k) (path_of field.Nodes at) k.nodes none a (rw (← links_length) inside))
-    (length k.nodes) n chain.end chain.way (rw links_length below) (omega arith)))
+    (length k.nodes) n (rw links_length below) chain in
+    omega arith))
 
 past_no_chain : (links : Links) (m a : ℕ) → length links ≤ a → has_chain links (suc m) a ≡ false
 unfolding has_chain
 past_no_chain links m a past = rw (get_or_past links a [] past) refl
 
-peg_ends : (k : SheetRecord) (at : List ℕ) → pass.SheetLongChains at k None → (i : ℕ) → i < length k.pegs → PegsEnd k 64 (Some i)
-peg_ends k at none i below = pegs_end k 64 i (not_long 64 (parent_links k) (path_of field.Pegs at) k.pegs none i below)
+peg_ends : ChainsTold → (k : SheetRecord) (at : List ℕ) → pass.SheetLongChains at k None → (i : ℕ) → i < length k.pegs → PegsEnd k 64 (Some i)
+peg_ends told k at none i below = pegs_end k 64 i (not_long told 64 (parent_links k) (path_of field.Pegs at) k.pegs none i below)
 
 module _ (sheets : List SheetRecord) where
   -- what holds of the nodes of each sheet holds past the sheets, where there is none
@@ -260,16 +275,16 @@ module _ (sheets : List SheetRecord) where
         | inr past ↦ absurd (let is = get_or_past sheets k no_sheet past in let none : i < length no_sheet.pegs = subst (λ (x : SheetRecord). i < length x.pegs) is below in omega arith)
       ]
 
-  sheets_everywhere : NoLongChains 16 (sheet_links sheets) pass.sheets_at sheets None → (k : ℕ) → SheetsEnd sheets 16 k
-  sheets_everywhere none k =
+  sheets_everywhere : ChainsTold → NoLongChains 16 (sheet_links sheets) pass.sheets_at sheets None → (k : ℕ) → SheetsEnd sheets 16 k
+  sheets_everywhere told none k =
       elim (cases_lt k (length sheets)) [
-        | inl inside ↦ sheets_end sheets 16 k (not_long 16 (sheet_links sheets) pass.sheets_at sheets none k inside)
+        | inl inside ↦ sheets_end sheets 16 k (not_long told 16 (sheet_links sheets) pass.sheets_at sheets none k inside)
         | inr past ↦ sheets_end sheets 16 k (past_no_chain (sheet_links sheets) 15 k (rw (length-map sheets sheets_in) past))
       ]
 
 -- ---- the scene
 
-module _ (s : SceneRecord) (sizes : pass.Sizes s None) (references : pass.References s None) (overlaps : pass.Overlaps s None)
+module _ (told : ChainsTold) (short : ChainsShort) (s : SceneRecord) (sizes : pass.Sizes s None) (references : pass.References s None) (overlaps : pass.Overlaps s None)
     (node_cycles : pass.NodeCycles s None) (long_chains : pass.LongChains s None) (ranges : IsInRange s) where
   all_good_sheets : All (IsGoodSheet s) s.sheets
   all_good_sheets k d below =
@@ -288,7 +303,7 @@ module _ (s : SceneRecord) (sizes : pass.Sizes s None) (references : pass.Refere
 
   nodes_all_end : All (λ k. (n : ℕ) → n < length k.nodes → NodesEnd k (length k.nodes) (ToNode n)) s.sheets
   nodes_all_end k d below =
-      sheet_nodes_end (get_or s.sheets k d) (index_at pass.sheets_at k) (all_good_sheets k d below).nodes
+      sheet_nodes_end told short (get_or s.sheets k d) (index_at pass.sheets_at k) (all_good_sheets k d below).nodes
       (at_index pass.SheetNodeCycles pass.sheets_at s.sheets node_cycles k d below)
 
   good : IsGood s
@@ -304,11 +319,11 @@ module _ (s : SceneRecord) (sizes : pass.Sizes s None) (references : pass.Refere
         ends =
             record {
               nodes = nodes_everywhere s.sheets nodes_all_end;
-              sheets_end = sheets_everywhere s.sheets long_chains.1;
-              pegs = pegs_everywhere s.sheets (each_at_all pass.SheetLongChains (λ k. (i : ℕ) → i < length k.pegs → PegsEnd k 64 (Some i)) (λ at k none. peg_ends k at none) pass.sheets_at s.sheets long_chains.0);
+              sheets_end = sheets_everywhere s.sheets told long_chains.1;
+              pegs = pegs_everywhere s.sheets (each_at_all pass.SheetLongChains (λ k. (i : ℕ) → i < length k.pegs → PegsEnd k 64 (Some i)) (λ at k none. peg_ends told k at none) pass.sheets_at s.sheets long_chains.0);
             };
       }
 
 -- a scene in which no pass finds a fault is good
-pub good_scene : (s : SceneRecord) → pass.Checking s None → IsInRange s → IsGood s
-good_scene s none ranges = good s none.0 none.1.0 none.1.1.0 none.1.1.1.1.0 none.1.1.1.1.1.1 ranges
+pub good_scene : ChainsTold → ChainsShort → (s : SceneRecord) → pass.Checking s None → IsInRange s → IsGood s
+good_scene told short s none ranges = good told short s none.0 none.1.0 none.1.1.0 none.1.1.1.1.0 none.1.1.1.1.1.1 ranges

@@ -1,9 +1,6 @@
 pub mod Findings
 pub mod Pairs
 pub mod Standings
-pub mod Chains
-pub mod Searches
-pub mod Levels
 pub mod Endings
 pub mod Goods
 pub mod Repeats
@@ -12,3 +9,8 @@ pub mod Numbering
 pub mod Readings
 pub mod StyleKeys
 pub mod FirstShared
+pub mod Settled
+pub mod Single
+pub mod SinglePasses
+pub mod Deciding
+pub mod DecidedPasses

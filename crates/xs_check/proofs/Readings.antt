@@ -16,7 +16,8 @@ use Rattle.xs_meaning.specs.Walk.{no_sheet, no_column, sheet_at, column_at}
 use Rattle.xs_meaning.proofs.Lists.{All-slice_index_or}
 use Rattle.xs_meaning.proofs.Depth.{find-has}
 use Rattle.xs_sheet.proofs.Sums.{IsSum, place_up-some}
-use Rattle.xs_check.specs.Good.{IsGood, IsThere, AreApart, DifferInRow, DifferInRowOrStyle}
+use Rattle.xs_index.specs.Apart.{AreApart, DifferInRow, DifferInRowOrStyle}
+use Rattle.xs_check.specs.Good.{IsGood, IsThere}
 use Rattle.xs_check.specs.Readers.{IsSeen}
 
 -- ---- what is seen is there

@@ -14,7 +14,7 @@ use Rattle.xs_scene.specs.Records.{LevelRecord}
 use Rattle.xs_check.specs.Finding.{Unless}
 use Rattle.xs_check.specs.Good.{files_of}
 use Rattle.xs_check.specs.Passes.{file_path, FilesApart}
-use Rattle.xs_check.specs.Ways.{IsFirstWithout}
+use Rattle.xs_graph.specs.First.{IsFirstWithout}
 use Rattle.xs_check.proofs.Findings.{each_cover, first_found}
 use Rattle.std.specs.Str.{bytes_eq}
 

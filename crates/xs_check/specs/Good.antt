@@ -1,5 +1,5 @@
 -- What checking establishes of a scene.
-pub use Rattle.xs_index.specs.Apart.{AreApart, DifferInRow, DifferInRowOrStyle}
+use Rattle.xs_index.specs.Apart.{AreApart, DifferInRow, DifferInRowOrStyle}
 use Rattle.std.specs.Prelude.{◌≡◌, ◌≢◌, ◌≤◌, ◌<◌, ℕ, List, [], Option, Some, IfSome, All, AllPairs, length, flat_map, slice_index_or}
 use Rattle.xs_scene.specs.declared.level.Kind.{Kind}
 use Rattle.xs_scene.specs.declared.level.Kind.TheVariants.{Colour, Cm32}

@@ -1,7 +1,5 @@
 pub mod Finding
-pub mod Ways
-pub mod Search
-pub mod Labels
+pub mod Codes
 pub mod Links
 pub mod Standing
 pub mod Good

@@ -8,7 +8,7 @@ use Rattle.xs_scene.specs.declared.node.Ref.TheVariants.{Column as ToColumn, Nod
 use Rattle.xs_scene.specs.declared.node.Node.{Node}
 use Rattle.xs_scene.specs.declared.node.Node.TheVariants.{Pair, Card, Shuffle, Blur, Keep, Delete}
 use Rattle.xs_scene.specs.Records.{SheetRecord}
-use Rattle.xs_check.specs.Ways.{Links}
+use Rattle.xs_graph.specs.Paths.{Links}
 
 -- the parent of each peg
 abbrev pub parent_links : SheetRecord → Links

@@ -17,8 +17,9 @@ use Rattle.xs_scene.specs.declared.node.Node.TheVariants.{Pair, Card, Shuffle, B
 use Rattle.xs_scene.specs.Records.{SceneRecord, SheetRecord, ColoursRecord, StyleKeyRecord, LevelRecord, PegRecord, PegKeyRecord, ColumnRecord, ExposureRecord}
 use Rattle.xs_meaning.specs.Walk.{sheet_at}
 use Rattle.xs_check.specs.Finding.{Finding, Nothing, Unless, Then, Each, EachAt, IfThere}
-use Rattle.xs_check.specs.Good.{level_at, files_of, AreApart, DifferInRow, DifferInRowOrStyle}
-use Rattle.xs_check.specs.Ways.{Links, LiesOnCycle, HasChain}
+use Rattle.xs_index.specs.Apart.{AreApart, DifferInRow, DifferInRowOrStyle}
+use Rattle.xs_check.specs.Good.{level_at, files_of}
+use Rattle.xs_graph.specs.Paths.{Links, LiesOnCycle, HasChain}
 use Rattle.xs_check.specs.Links.{parent_links, input_links, sheet_links}
 
 -- the path of the sheets

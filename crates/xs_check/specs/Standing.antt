@@ -2,6 +2,10 @@
 use Rattle.std.specs.Prelude.{◌≡◌, ◌<◌, ◌≤◌, ◌+◌, ◌⊎◌, ℕ, List, Option, Some, None, AllPairs, length, take}
 use Rattle.xs_check.specs.declared.standing.Rows.{Rows}
 
+-- where an item stands, by its group, its first row and its last
+abbrev pub stands : {A : Type 0} → (A → ℕ) → (A → ℕ) → (A → ℕ) → A → Rows
+stands group first last a = record { group = group a; from = first a; to = last a }
+
 -- the first row is no later than the last
 abbrev pub IsSpan : Rows → Type 0
 IsSpan r = r.from ≤ r.to

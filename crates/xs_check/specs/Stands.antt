@@ -3,19 +3,19 @@ use Rattle.std.specs.Prelude.{◌≤◌, ◌↔◌, ℕ, refl}
 use Rattle.std.proofs.Math.Nat.{le_refl, le_trans, le_antisymm}
 use Rattle.std.proofs.Common.{subst}
 use Rattle.xs_scene.specs.Records.{PegKeyRecord, StyleKeyRecord, ExposureRecord}
-use Rattle.xs_check.specs.Good.{AreApart, DifferInRow, DifferInRowOrStyle}
-use Rattle.xs_check.specs.Standing.{StandApart}
+use Rattle.xs_index.specs.Apart.{AreApart, DifferInRow, DifferInRowOrStyle}
+use Rattle.xs_check.specs.Standing.{StandApart, stands}
 use Rattle.xs_check.specs.declared.standing.Rows.{Rows}
 
 abbrev pub peg_key_stands : PegKeyRecord → Rows
-peg_key_stands key = record { group = 0; from = key.row; to = key.row }
+peg_key_stands = stands (λ k. 0) (λ k. k.row) (λ k. k.row)
 
 -- keys of one style are a group
 abbrev pub style_key_stands : StyleKeyRecord → Rows
-style_key_stands key = record { group = key.style; from = key.row; to = key.row }
+style_key_stands = stands (λ k. k.style) (λ k. k.row) (λ k. k.row)
 
 abbrev pub cell_stands : ExposureRecord → Rows
-cell_stands e = record { group = 0; from = e.from; to = e.to }
+cell_stands = stands (λ e. 0) (λ e. e.from) (λ e. e.to)
 
 pub peg_keys_told : (a b : PegKeyRecord) → DifferInRow a b ↔ StandApart (peg_key_stands a) (peg_key_stands b)
 unfolding StandApart

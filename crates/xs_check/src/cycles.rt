@@ -4,10 +4,9 @@ ghost use Rattle.xs_check.specs.Finding.{Finds};
 ghost use Rattle.xs_check.specs.Passes.{sheets_at, PegCycles, NodeCycles, SheetCycles, LongChains, NoCycles, NoLongChains};
 
 use crate::finding::{Rule, each, tell_first};
-use crate::labels::first_on_cycle;
 use crate::links::{Naming, links_of};
-use crate::ways::first_long;
 use std::alloc::Global;
+use xs_graph::{first_long, first_on_cycle};
 use xs_json::{Field, FieldFault, Path, Place, SceneCode};
 use xs_scene::{Scene, Sheet};
 

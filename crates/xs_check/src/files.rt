@@ -3,7 +3,7 @@ ghost use Rattle.std.specs.Prelude.{◌≡◌, ◌≢◌, ◌++◌, [], IfOk, On
 ghost use Rattle.xs_check.specs.Finding.{Finds};
 ghost use Rattle.xs_check.specs.Good.{files_of as names_of};
 ghost use Rattle.xs_check.specs.Passes.{file_path as path_by_number, drawing_path as path_by_place, FilesApart};
-ghost use Rattle.xs_check.specs.Ways.{IsFirstWithout};
+ghost use Rattle.xs_graph.specs.First.{IsFirstWithout};
 
 use std::alloc::{AllocError, Global};
 use std::collections::BTreeMap;

@@ -10,6 +10,7 @@ use crate::references::references;
 use crate::sizes::sizes;
 use std::alloc::Global;
 use std::marker::Model;
+use xs_graph::laws::{chains_are_told_link_by_link, chains_without_a_cycle_are_short};
 use xs_index::Index;
 use xs_json::{Field, FieldFault, Path, Place};
 use xs_scene::{Scene, Sheet};
@@ -60,6 +61,8 @@ pub fn check(alloc: Global, s: Scene) -> Result<GoodScene, FieldFault>
 {
     first_fault(alloc, &s)?;
     s.in_range();
+    chains_are_told_link_by_link();
+    chains_without_a_cycle_are_short();
     let index = Index::of(alloc, &s)?;
     let numbers = numbers_of(alloc, s.levels.items())?;
     Ok(GoodScene {

@@ -6,16 +6,13 @@ pub mod cycles;
 pub mod files;
 pub mod finding;
 pub mod good;
-pub mod labels;
+pub mod laws;
 pub mod links;
 mod numbers;
 pub mod overlaps;
 mod readers;
 pub mod references;
-pub mod search;
 pub mod sizes;
 pub mod standing;
-pub mod walk;
-pub mod ways;
 
 pub use good::{GoodScene, check};

@@ -1,98 +1,99 @@
 //! What stands where something earlier stands.
-ghost use Rattle.std.specs.Prelude.{◌≡◌, ◌↔◌, IfOk, All, map};
+ghost use Rattle.std.specs.Prelude.{◌≡◌, ◌≤◌, ◌↔◌, ℕ, IfOk, All, map};
 ghost use Rattle.xs_check.specs.Finding.{Finds};
 ghost use Rattle.xs_check.specs.Passes.{EachApart, Overlaps};
-ghost use Rattle.xs_check.specs.Standing.{IsSpan, StandApart};
+ghost use Rattle.xs_check.specs.Standing.{IsSpan, stands};
 
 use crate::files::files_apart;
 use crate::finding::{Rule, each, tell_first};
 use crate::standing::{Rows, first_shared};
 use std::alloc::{AllocError, Global};
+use xs_index::Timed;
 use xs_json::{Field, FieldFault, Path, Place, SceneCode};
 use xs_scene::{Colours, Column, Exposure, Peg, PegKey, Scene, Sheet, StyleKey};
 
-/// A thing that may not stand where another stands.
-pub trait Apart: Sized {
-    ghost use Rattle.xs_check.specs.declared.standing.Rows.{Rows as Stand};
+/// An item that may not stand where another of its group stands: in its first row, its last, or one between.
+pub trait Apart: Timed {
+    ghost use Rattle.xs_check.specs.Standing.{StandApart, stands};
 
     /// Two stand apart.
     ghost apart: { Self → Self → Type 0 };
 
-    /// Where a thing stands.
-    ghost stands: { Self → Stand };
+    /// The last row in which an item stands.
+    ghost last_of: { Self → ℕ };
 
-    fn rows(&self) -> Rows
-        ensures stands { result ≡ stands self.now }
-        ensures span { IsSpan result };
+    fn last(&self) -> u32
+        ensures last { result ≡ last_of self.now }
+        ensures span { Self.row_of self.now ≤ result };
 
-    ghost told: { (a b : Self) → apart a b ↔ StandApart (stands a) (stands b) };
+    ghost told: { (a b : Self) → apart a b ↔ StandApart (stands Self.group_of Self.row_of last_of a) (stands Self.group_of Self.row_of last_of b) };
 }
 
 impl Apart for PegKey {
-    ghost use Rattle.xs_check.specs.Good.{DifferInRow};
-    ghost use Rattle.xs_check.specs.Stands.{peg_key_stands, peg_keys_told};
+    ghost use Rattle.xs_index.specs.Apart.{DifferInRow};
+    ghost use Rattle.xs_check.specs.Stands.{peg_keys_told};
 
     ghost apart = { DifferInRow };
 
-    ghost stands = { peg_key_stands };
+    ghost last_of = { λ k. k.row };
 
     ghost told = { peg_keys_told };
 
-    fn rows(&self) -> Rows {
-        Rows {
-            group: 0,
-            from: self.row,
-            to: self.row,
-        }
+    fn last(&self) -> u32 {
+        self.row
     }
 }
 
 impl Apart for StyleKey {
-    ghost use Rattle.xs_check.specs.Good.{DifferInRowOrStyle};
-    ghost use Rattle.xs_check.specs.Stands.{style_key_stands, style_keys_told};
+    ghost use Rattle.xs_index.specs.Apart.{DifferInRowOrStyle};
+    ghost use Rattle.xs_check.specs.Stands.{style_keys_told};
 
     ghost apart = { DifferInRowOrStyle };
 
-    ghost stands = { style_key_stands };
+    ghost last_of = { λ k. k.row };
 
     ghost told = { style_keys_told };
 
-    fn rows(&self) -> Rows {
-        Rows {
-            group: self.style,
-            from: self.row,
-            to: self.row,
-        }
+    fn last(&self) -> u32 {
+        self.row
     }
 }
 
 impl Apart for Exposure {
-    ghost use Rattle.xs_check.specs.Good.{AreApart};
-    ghost use Rattle.xs_check.specs.Stands.{cell_stands, cells_told};
+    ghost use Rattle.xs_index.specs.Apart.{AreApart};
+    ghost use Rattle.xs_check.specs.Stands.{cells_told};
 
     ghost apart = { AreApart };
 
-    ghost stands = { cell_stands };
+    ghost last_of = { λ e. e.to };
 
     ghost told = { cells_told };
 
-    fn rows(&self) -> Rows {
-        Rows {
-            group: 0,
-            from: self.from,
-            to: self.to,
-        }
+    fn last(&self) -> u32 {
+        self.to
     }
 }
 
-/// Where each of some things stands.
+/// Where an item stands.
+fn rows_at<T: Apart>(item: &T) -> Rows
+    ensures stands { result ≡ stands T.group_of T.row_of T.last_of item.now }
+    ensures span { IsSpan result }
+{
+    Rows {
+        group: item.group(),
+        from: item.row(),
+        to: item.last(),
+    }
+}
+
+/// Where each of some items stands.
 fn rows_of<T: Apart>(alloc: Global, items: &[T]) -> Result<Vec<Rows>, AllocError>
-    ensures rows { IfOk result (λ v. v.items ≡ map T.stands items.now) }
+    ensures rows { IfOk result (λ v. v.items ≡ map (stands T.group_of T.row_of T.last_of) items.now) }
     ensures spans { IfOk result (λ v. All IsSpan v.items) }
 {
     let mut rows = Vec::with_capacity(alloc, items.len())?;
     for item in items {
-        rows.push(item.rows())?;
+        rows.push(rows_at(item))?;
     }
     Ok(rows)
 }

@@ -1,12 +1,6 @@
 pub mod Parts
 pub mod Answered
 pub mod Wholes
-pub mod Settled
-pub mod Cycles
-pub mod Findings
-pub mod Passes
-pub mod Deciding
-pub mod Decided
 pub mod OneOutcome
 pub mod SceneTexts
 pub mod LevelCodes

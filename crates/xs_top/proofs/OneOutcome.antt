@@ -3,6 +3,7 @@ use Rattle.std.proofs.Common.{◌≡◌, ℕ, List, [], ◌∷◌, Option, Some,
 use Rattle.xs_json.specs.declared.fault.SceneFault.{SceneFault}
 use Rattle.xs_scene.specs.Records.{SceneRecord}
 use Rattle.xs_scene_json.specs.SceneText.{scene_of}
+use Rattle.xs_check.specs.Passes.{Checking}
 use Rattle.xs_words.specs.declared.command.Command.{Command}
 use Rattle.xs_words.specs.declared.command.Command.TheVariants as command
 use Rattle.xs_words.specs.declared.fault.Usage.{Usage}
@@ -11,7 +12,10 @@ use Rattle.xs_top.specs.declared.status.Status.{Status}
 use Rattle.xs_top.specs.Trace.{Ask, Outcome, ended, after}
 use Rattle.xs_top.specs.Told.{Files, Verdict, IsVerdict}
 use Rattle.xs_top.specs.Outcome.{found, asking, checked, decoded, loading_scene, rendering_scene, rendering, showing_scene, showing, commanding, obeying, outcome}
-use Rattle.xs_top.proofs.Passes.{checking}
+
+-- checking finds one thing in a scene
+abbrev pub OneFinding : Type 0
+OneFinding = (s : SceneRecord) (found other : Option SceneFault) → Checking s found → Checking s other → found ≡ other
 
 found_same : (file : Option (List ℕ)) (limit : ℕ) (absent too_long : Status) (next other : List ℕ → Outcome) → ((bytes : List ℕ) → file ≡ Some bytes → next bytes ≡ other bytes) → found file limit absent too_long next ≡ found file limit absent too_long other
 found_same None limit absent too_long next other same = refl
@@ -22,14 +26,14 @@ decoded_same : (verdict other : Verdict) (reading : Result SceneRecord SceneFaul
 decoded_same verdict other (Err fault) next same = refl
 decoded_same verdict other (Ok s) next same = ap (λ found. checked found (next s)) (same s refl)
 
-module _ (files : Files) (verdict other : Verdict) (right : IsVerdict files verdict) (also : IsVerdict files other) where
+module _ (one : OneFinding) (files : Files) (verdict other : Verdict) (right : IsVerdict files verdict) (also : IsVerdict files other) where
   loading_same : (name : List ℕ) (next : SceneRecord → Outcome) → loading_scene files verdict name next ≡ loading_scene files other name next
   unfolding loading_scene asking
   loading_same name next =
       ap (after (Ask name ∷ []))
       (found_same (files name) _ _ _ _ _
       (λ bytes there. decoded_same verdict other (scene_of bytes) next
-      (λ s says. (checking s).same _ _ (right name bytes s there says) (also name bytes s there says))))
+      (λ s says. one s _ _ (right name bytes s there says) (also name bytes s there says))))
 
   commanding_same : (words : Command) → commanding files verdict words ≡ commanding files other words
   unfolding commanding rendering showing

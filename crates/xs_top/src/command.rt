@@ -13,6 +13,7 @@ use crate::status::{Status, status_of};
 use crate::steps::note;
 use std::alloc::Global;
 use std::marker::Brand;
+use xs_check::laws::checking_finds_one_thing;
 use xs_outside::{Library, Notes, Shelf};
 use xs_pixel::Memory;
 use xs_scene::Name;
@@ -194,6 +195,7 @@ pub fn run<L: Library, S: Shelf, T: Notes>(
         × ((S.objects shelf.new ≡ more (S.objects shelf.old) (puts (outcome files verdict (map string_bytes words.now.items)).work))
         ⊎ Rose (S.faults shelf.old) (S.faults shelf.new)) }
 {
+    checking_finds_one_thing();
     match try_run(alloc, words, lib, shelf, notes) {
         Ok(()) => Status::Ok,
         Err(status) => status,

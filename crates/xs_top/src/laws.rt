@@ -1,7 +1,5 @@
 //! Laws of the outcome, in the words of its subject.
-ghost use Rattle.std.specs.Prelude.{◌≡◌, ◌≤◌, ◌+◌, ◌-◌, ◌++◌, ◌∷◌, [], ℕ, List, Option, None, map};
-ghost use Rattle.xs_check.specs.Passes.{Checking};
-ghost use Rattle.xs_json.specs.declared.fault.SceneFault.{SceneFault};
+ghost use Rattle.std.specs.Prelude.{◌≡◌, ◌≤◌, ◌+◌, ◌-◌, ◌++◌, ◌∷◌, [], ℕ, List, None, map};
 ghost use Rattle.xs_needs.specs.Fresh.{each_once};
 ghost use Rattle.xs_scene.specs.Records.{SceneRecord};
 ghost use Rattle.xs_top.specs.declared.status.Status.TheVariants as answers;
@@ -12,18 +10,15 @@ ghost use Rattle.xs_top.specs.Rows.{rows_of, rows_before};
 ghost use Rattle.xs_top.specs.Finished.{Says, AreAccepted, frames_of};
 ghost use Rattle.xs_top.specs.Outcome.{rendered_line, rendering, outcome};
 
-/// Checking finds in each scene its first fault or nothing, and no second thing.
-pub fn checking_finds_one_thing()
-    ensures there { (s : SceneRecord) → (found : Option SceneFault) × Checking s found }
-    ensures one { (s : SceneRecord) (found other : Option SceneFault) → Checking s found → Checking s other
-        → found ≡ other }
-{}
+use xs_check::laws::checking_finds_one_thing;
 
 /// Each verdict over a library gives the same outcome.
 pub fn every_verdict_gives_one_outcome()
     ensures { (files : Files) (verdict other : Verdict) → IsVerdict files verdict → IsVerdict files other
         → (words : List (List ℕ)) → outcome files verdict words ≡ outcome files other words }
-{}
+{
+    checking_finds_one_thing();
+}
 
 /// A render of a scene without a fault, whose rows need only drawings that are there without a fault, ends
 /// well. It has asked for the scene and then for each drawing that its rows need, once; the shelf has gained

@@ -14,6 +14,7 @@ use crate::SCENE_LIMIT;
 use crate::status::{Status, status_of_scene};
 use crate::steps::ask;
 use std::alloc::Global;
+use xs_check::laws::{checking_finds_its_codes, checking_finds_one_thing};
 use xs_check::{GoodScene, check};
 use xs_json::{FieldFault, Path, SceneCode, SceneFault};
 use xs_outside::Library;
@@ -59,6 +60,8 @@ fn read_scene(alloc: Global, bytes: &[u8]) -> Result<GoodScene, Status>
     ensures read { IsErrOf result Status.ReadFault → ⊥ }
     ensures write { IsErrOf result Status.WriteFault → ⊥ }
 {
+    checking_finds_one_thing();
+    checking_finds_its_codes();
     match decode_and_check(alloc, bytes) {
         Ok(good) => Ok(good),
         Err(fault) => Err(status_of_scene(fault)),

@@ -7,7 +7,7 @@ use Rattle.xs_check.proofs.good.check.Goals as goal
 pub invariant_of-result : goal.invariant_of-result
 invariant_of-result c =
     record {
-      good = good_scene c.args.s c.in_ok-first_fault.ensures c.in_range.ensures;
+      good = good_scene c.chains_are_told_link_by_link.ensures c.chains_without_a_cycle_are_short.ensures c.args.s c.in_ok-first_fault.ensures c.in_range.ensures;
       index_of = c.in_ok-index.ensures;
       numbering =
           subst

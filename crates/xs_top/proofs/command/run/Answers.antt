@@ -1,22 +1,35 @@
-use Rattle.xs_top.specs.Told.{Files, IsVerdict}
-use Rattle.xs_top.proofs.Decided.{verdict_of, verdict_right}
+use Rattle.std.proofs.Common.{Option}
+use Rattle.xs_json.specs.declared.fault.SceneFault.{SceneFault}
+use Rattle.xs_scene.specs.Records.{SceneRecord}
+use Rattle.xs_check.specs.Passes.{Checking}
+use Rattle.xs_top.specs.Told.{Files, Verdict, IsVerdict}
 use Rattle.xs_top.proofs.Wholes.{whole_run, stopped_run}
 use Rattle.xs_top.proofs.command.run.Goals as goal
 
-is_verdict : (files : Files) → IsVerdict files verdict_of
-is_verdict files = λ name bytes s there says. verdict_right s
+-- in each scene checking finds something, or nothing
+abbrev SomeFinding : Type 0
+SomeFinding = (s : SceneRecord) → (found : Option SceneFault) × Checking s found
+
+abbrev verdict_of : SomeFinding → Verdict
+verdict_of found s = (found s).0
+
+is_verdict : (found : SomeFinding) (files : Files) → IsVerdict files (verdict_of found)
+is_verdict found files = λ name bytes s there says. (found s).1
 
 pub returns-in-Ok-clause-told : goal.returns-in-Ok-clause-told
 returns-in-Ok-clause-told g c = λ files e.
-    (verdict_of, is_verdict files, whole_run _ _ _ _ (c.in-Ok.ensures.told files e verdict_of (is_verdict files)) (λ read. cc))
+    let found = c.checking_finds_one_thing.ensures.there in
+    (verdict_of found, is_verdict found files, whole_run _ _ _ _ (c.in-Ok.ensures.told files e (verdict_of found) (is_verdict found files)) (λ read. cc))
 
 pub returns-in-Err-clause-told : goal.returns-in-Err-clause-told
 returns-in-Err-clause-told g c = λ files e.
-    (verdict_of, is_verdict files, stopped_run _ _ _ _ (c.in-Err.ensures.told files e verdict_of (is_verdict files)))
+    let found = c.checking_finds_one_thing.ensures.there in
+    (verdict_of found, is_verdict found files, stopped_run _ _ _ _ (c.in-Err.ensures.told files e (verdict_of found) (is_verdict found files)))
 
 pub returns-in-Ok-clause-placed : goal.returns-in-Ok-clause-placed
 returns-in-Ok-clause-placed g c = λ files e broken. cc
 
 pub returns-in-Err-clause-placed : goal.returns-in-Err-clause-placed
 returns-in-Err-clause-placed g c = λ files e broken.
-    (verdict_of, is_verdict files, c.in-Err.ensures.placed files e verdict_of (is_verdict files) (cc broken))
+    let found = c.checking_finds_one_thing.ensures.there in
+    (verdict_of found, is_verdict found files, c.in-Err.ensures.placed files e (verdict_of found) (is_verdict found files) (cc broken))

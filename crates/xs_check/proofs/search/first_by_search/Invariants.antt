@@ -1,6 +1,0 @@
-use Rattle.std.proofs.Common.{◌<◌, ℕ}
-use Rattle.xs_check.specs.Ways.{LiesOnCycle}
-use Rattle.xs_check.proofs.search.first_by_search.Given as goal
-
-abbrev pub invariant-loop-i : goal.invariant-loop-i
-invariant-loop-i l = (j : ℕ) → j < l.i → LiesOnCycle l.links j → ⊥

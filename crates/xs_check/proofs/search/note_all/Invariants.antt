@@ -1,6 +1,0 @@
-use Rattle.std.proofs.Common.{take}
-use Rattle.xs_check.specs.Search.{Grows}
-use Rattle.xs_check.proofs.search.note_all.Given as goal
-
-abbrev pub invariant-loop-number : goal.invariant-loop-number
-invariant-loop-number l = Grows l.initial.seen.items l.initial.met.items (take l.number-index l.named) l.seen.items l.met.items

@@ -1,0 +1,5 @@
+pub mod First
+pub mod Settled
+pub mod Paths
+pub mod Search
+pub mod Labels
