@@ -2,7 +2,7 @@
 ghost use Rattle.std.specs.Prelude.{◌≡◌, ◌≤◌, ◌+◌, ◌-◌, ◌++◌, ◌∷◌, [], ℕ, List, Option, None, map};
 ghost use Rattle.xs_check.specs.Passes.{Checking};
 ghost use Rattle.xs_json.specs.declared.fault.SceneFault.{SceneFault};
-ghost use Rattle.xs_needs.specs.Fresh.{each_once};
+ghost use Rattle.xs_schematic.specs.Once.{each_once};
 ghost use Rattle.xs_scene.specs.Records.{SceneRecord};
 ghost use Rattle.xs_top.specs.declared.status.Status.TheVariants as answers;
 ghost use Rattle.xs_top.specs.Trace.{Event, Ask, asks, puts, lines};
