@@ -1,8 +1,9 @@
 -- A frame from the drawings that are held is that of the pictures that are told
-use Rattle.std.proofs.Common.{ℕ, ◌≡◌, Option, Some, None, IsSome, IfSome, List, [], ◌∷◌, pos, map, flat_map, slice_get, option_map, option_and_then, refl, sym, ap}
+use Rattle.std.proofs.Common.{ℕ, ◌≡◌, ◌∙◌, ◌+◌, ◌<◌, ◌↔◌, All, Contains, length, take, get_or, subst, ◌++◌, Option, Some, None, IsSome, IfSome, List, [], ◌∷◌, pos, map, flat_map, slice_get, option_map, option_and_then, refl, sym, ap}
 use Rattle.std.specs.List.{range_with_len, AllByRecursion}
 use Rattle.std.specs.Simd.Lanes.{Each1}
-use Rattle.std.proofs.lemmas.List.Elements.{All-from_recursion, All-contains}
+use Rattle.std.proofs.lemmas.List.Elements.{All-from_recursion, All-contains, All-push, Contains-get_or}
+use Rattle.std.proofs.lemmas.List.{take_more}
 use mathlib.Core.Path.{fun_ext}
 use Rattle.xs_pixel.specs.Channels.{Channels, IsPixel}
 use Rattle.xs_pixel.specs.Picture.{Picture}
@@ -13,7 +14,7 @@ use Rattle.xs_rawfile.specs.declared.drawing.RawKind.{RawKind}
 use Rattle.xs_rawfile.specs.declared.drawing.RawKind.TheVariants.{Colour, Cm32}
 use Rattle.xs_rawfile.specs.Raw.{Raw, Fills}
 use Rattle.xs_rawfile.specs.Frame.{frame_of as file_of}
-use Rattle.xs_rawfile.specs.Held.{Held, IsHeld, IsIn, slot_in, picture_of, content_of}
+use Rattle.xs_rawfile.specs.Held.{Held, IsHeld, IsIn, slot_in, drawing_in, picture_of, content_of}
 use Rattle.xs_scene.specs.InRange.{IsInRange}
 use Rattle.xs_scene.specs.Records.{SceneRecord}
 use Rattle.xs_meaning.specs.Agreement.{AgreeOn}
@@ -21,6 +22,7 @@ use Rattle.xs_meaning.specs.Drawings.{Pictures, ArePixels, HoldsPixels}
 use Rattle.xs_meaning.specs.Expressions.{root_of, drawings_of}
 use Rattle.xs_meaning.specs.Points.{Point, point}
 use Rattle.xs_meaning.specs.Rows.{Image, frame_pixel}
+use Rattle.xs_schematic.specs.Once.{fresh, each_once}
 use Rattle.xs_direct.specs.Frames.{frame_file}
 use Rattle.xs_direct.specs.Pictures.{pictures_in, AreHeld}
 
@@ -94,3 +96,40 @@ told-frame s told h pictures row own range held tells pixels are =
     same-frame s (pictures_in h) pictures row
     (own s (pictures_in h) pictures range (ArePixels-held told h held) pixels row
     (held-agree told h pictures (drawings_of (root_of s row)) held tells are))
+
+-- ---- whether drawings are held
+
+not_held : (slot : Option (Raw × Option ℕ)) → option_map (λ (slot : Raw × Option ℕ). slot.0) slot ≡ None → IsSome slot → ⊥
+not_held None none some = absurd (let e : IsSome {T = Raw × Option ℕ} None = some in cc)
+not_held (Some slot) none some = cc
+
+held_slot : (slot : Option (Raw × Option ℕ)) → (option_map (λ (slot : Raw × Option ℕ). slot.0) slot ≡ None → ⊥) → IsSome slot
+held_slot None some = absurd (some refl)
+held_slot (Some slot) some = refl
+
+-- one drawing that is not held decides
+pub held-fails :
+    (h : Held) (ds : List ℕ) (i : ℕ) (d : ℕ) → i < length ds → d ≡ get_or ds i d → drawing_in h d ≡ None → AreHeld h ds → ⊥
+held-fails h ds i d within is none are =
+    not_held (slot_in h d) none (subst (λ (e : ℕ). IsSome (slot_in h e)) (sym is) (are i d within))
+
+-- one more that is held
+pub held-more :
+    (h : Held) (ds : List ℕ) (i : ℕ) (d : ℕ) → i < length ds → d ≡ get_or ds i d → (drawing_in h d ≡ None → ⊥)
+    → AreHeld h (take i ds) → AreHeld h (take (i + 1) ds)
+held-more h ds i d within is some are =
+    subst (AreHeld h) (sym (take_more ds i d within ∙ ap (λ (e : ℕ). take i ds ++ e ∷ []) (sym is)))
+    (All-push (λ d. IsSome (slot_in h d)) (take i ds) d are (held_slot (slot_in h d) some))
+
+-- of numbers that are taken once, all are held where all of the list are, and the other way round
+pub held-once :
+    ((known xs : List ℕ) (d : ℕ) → Contains (fresh known xs) d → Contains xs d)
+    → ((known xs : List ℕ) → All (Contains (known ++ fresh known xs)) xs)
+    → (h : Held) (xs ys : List ℕ) → ys ≡ each_once xs → AreHeld h ys ↔ AreHeld h xs
+held-once members found h xs ys is =
+    let P : ℕ → Type 0 = λ d. IsSome (slot_in h d) in (
+      λ are i d lt. All-contains P (each_once xs) (get_or xs i d) (subst (AreHeld h) is are) (found [] xs i d lt),
+      λ are. subst (AreHeld h) (sym is)
+          (λ i d lt. All-contains P xs (get_or (each_once xs) i d) are
+          (members [] xs (get_or (each_once xs) i d) (Contains-get_or (each_once xs) i d lt))),
+    )

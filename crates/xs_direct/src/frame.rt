@@ -9,6 +9,7 @@ ghost use Rattle.xs_meaning.specs.Points.{point};
 ghost use Rattle.xs_meaning.specs.Rows.{row_of, camera_at};
 ghost use Rattle.xs_direct.specs.Frames.{frame_file, line_of};
 ghost use Rattle.xs_direct.specs.Pictures.{pictures_in, AreHeld};
+ghost use Rattle.xs_direct.specs.Room.{peg_reach};
 
 use crate::filters::Filters;
 use crate::spot::Spot;
@@ -105,7 +106,7 @@ fn push_lines<K: Film>(
 ) -> Result<(), Memory>
     requires width { w ≤ 4096 }
     requires height { h ≤ 4096 }
-    requires near { IsWithin 4194304 (point corner.0 corner.1) }
+    requires near { IsWithin peg_reach (point corner.0 corner.1) }
     requires camera { point corner.0 corner.1 ≡ camera_at s.now row }
     ensures { OnOk result (bytes.new.items ≡ bytes.old.items ++ bytes_of (flat_map (λ y. line_of s.now (pictures_in drawings.now) row y w) (range_with_len 0 h))) }
 {
@@ -127,7 +128,7 @@ fn push_line<K: Film>(
 ) -> Result<(), Memory>
     requires width { w ≤ 4096 }
     requires height { y < 4096 }
-    requires near { IsWithin 4194304 (point corner.0 corner.1) }
+    requires near { IsWithin peg_reach (point corner.0 corner.1) }
     requires camera { point corner.0 corner.1 ≡ camera_at s.now row }
     ensures { OnOk result (bytes.new.items ≡ bytes.old.items ++ bytes_of (line_of s.now (pictures_in drawings.now) row y w)) }
 {

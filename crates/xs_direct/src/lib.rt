@@ -5,12 +5,14 @@
 mod drawing;
 mod filters;
 pub mod frame;
+pub mod held;
 mod shuffle;
 mod spot;
 mod sums;
 mod values;
 
 pub use frame::{frame_direct, pixel_at};
+pub use held::are_drawings_held;
 
 #[cfg(test)]
 mod tests;

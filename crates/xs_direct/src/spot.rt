@@ -21,12 +21,12 @@ impl Spot {
     ghost use Rattle.std.specs.Prelude.{◌≡◌, ◌*◌, ◌≤◌, pos, ◌-ℤ◌};
     ghost use Rattle.xs_meaning.specs.Bounds.{IsWithin};
     ghost use Rattle.xs_meaning.specs.Points.{Point, point, plus, minus};
-    ghost use Rattle.xs_direct.specs.Room.{HasRoom};
+    ghost use Rattle.xs_direct.specs.Room.{HasRoom, blur_reach, peg_reach};
 
     /// The point less an offset.
     pub(crate) fn less(self, by: (i32, i32)) -> Spot
-        requires room { HasRoom 4194304 self }
-        requires near { IsWithin 4194304 (point by.0 by.1) }
+        requires room { HasRoom peg_reach self }
+        requires near { IsWithin peg_reach (point by.0 by.1) }
         ensures { result ≡ minus self (point by.0 by.1) }
     {
         Spot {
@@ -42,7 +42,7 @@ impl Spot {
         requires across { i ≤ 2 * n }
         requires up { j ≤ 2 * n }
         ensures value { result ≡ point (pos i -ℤ pos n) (pos j -ℤ pos n) }
-        ensures near { IsWithin 16 result }
+        ensures near { IsWithin blur_reach result }
     {
         Spot {
             x: i as i32 - n as i32,
@@ -52,8 +52,8 @@ impl Spot {
 
     /// The point plus an offset.
     pub(crate) fn plus(self, by: Spot) -> Spot
-        requires room { HasRoom 16 self }
-        requires near { IsWithin 16 by }
+        requires room { HasRoom blur_reach self }
+        requires near { IsWithin blur_reach by }
         ensures { result ≡ plus self by }
     {
         Spot {

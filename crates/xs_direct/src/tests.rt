@@ -1,6 +1,6 @@
 //! A frame of two pixels: a drawing of one pixel over a card.
 
-use crate::frame::frame_direct;
+use crate::{are_drawings_held, frame_direct};
 use std::alloc::Global;
 use std::marker::Brand;
 use std::test::Fail;
@@ -39,13 +39,15 @@ fn scene(alloc: Global) -> Result<GoodScene, Fail> {
 }
 
 #[test]
-fn lays_a_drawing_over_a_card(rt: HostRuntime) -> Result<(), Fail> {
+fn lays_a_drawing_that_is_held_over_a_card(rt: HostRuntime) -> Result<(), Fail> {
     let scene = scene(rt.alloc())?;
     let palettes = List::of(Vec::new(rt.alloc()));
     let mut drawings = Drawings::<Brand>::new(rt.alloc(), 1, palettes)?;
+    assert!(rt; !are_drawings_held(rt.alloc(), &scene, &drawings, 1)?);
     let bytes = [10u8, 20, 30, 255].to_vec(rt.alloc())?;
     let drawing = Drawing::new(1, 0, 1, 1, RawKind::Colour, List::of(bytes)).ok_or("a drawing")?;
     drawings.set(0, drawing, None);
+    assert!(rt; are_drawings_held(rt.alloc(), &scene, &drawings, 1)?);
     assert_eq!(rt;
         frame_direct(rt.alloc(), &scene, &drawings, 1)?.as_slice(),
         b"XFR1\x02\0\0\0\x01\0\0\0\x80\0\0\x80\x0a\x14\x1e\xff".as_slice()

@@ -8,7 +8,7 @@ ghost use Rattle.xs_meaning.specs.Rows.{blurred};
 ghost use Rattle.xs_meaning.specs.Walk.{sheet_at, column_at as the_column, terminals_by};
 ghost use Rattle.xs_direct.specs.Filters.{dropped_of};
 ghost use Rattle.xs_direct.specs.Pictures.{pictures_in};
-ghost use Rattle.xs_direct.specs.Room.{HasRoom};
+ghost use Rattle.xs_direct.specs.Room.{HasRoom, blur_reach, peg_reach, room_for, sheet_reach};
 ghost use Rattle.xs_direct.specs.Sums.{AreSums, sums_at, line_of};
 ghost use Rattle.xs_direct.specs.Values.{row_within, value_within, column_within, node_within, stack_of};
 
@@ -34,7 +34,7 @@ pub(crate) fn row_at<'a, K: Film>(
     p: Spot,
 ) -> Pixel
     requires sheet { k < length s.now.sheets }
-    requires room { HasRoom (8388608 * depth) p }
+    requires room { HasRoom (sheet_reach * depth) p }
     ensures { result ≡ row_within s.now (pictures_in drawings.now) depth k row (dropped_of f.now) p }
 {
     if depth == 0 {
@@ -65,7 +65,7 @@ fn stacked<'a, K: Film>(
     p: Spot,
 ) -> Pixel
     requires sheet { k < length s.now.sheets }
-    requires room { HasRoom (8388608 * depth + 4194304 + 16 * below) p }
+    requires room { HasRoom (room_for depth below) p }
     ensures { result ≡ stack_of (λ t. value_within s.now (pictures_in drawings.now) depth k below t row (dropped_of f.now) p) terminals.now }
 {
     let mut pixel = Pixel::CLEAR;
@@ -91,7 +91,7 @@ fn stacked_columns<'a, K: Film>(
 ) -> Pixel
     requires sheet { k < length s.now.sheets }
     requires few { length columns.now ≤ 1024 }
-    requires room { HasRoom (8388608 * depth + 4194304 + 16 * below) p }
+    requires room { HasRoom (room_for depth below) p }
     ensures { result ≡ stack_of (λ t. value_within s.now (pictures_in drawings.now) depth k below t row (dropped_of f.now) p) (terminals_by None columns.now) }
 {
     let mut pixel = Pixel::CLEAR;
@@ -130,7 +130,7 @@ fn value_at<'a, K: Film>(
     p: Spot,
 ) -> Pixel
     requires sheet { k < length s.now.sheets }
-    requires room { HasRoom (8388608 * depth + 4194304 + 16 * below) p }
+    requires room { HasRoom (room_for depth below) p }
     ensures { result ≡ value_within s.now (pictures_in drawings.now) depth k below n row (dropped_of f.now) p }
 {
     if below == 0 {
@@ -155,7 +155,7 @@ fn column_at<'a, K: Film>(
     p: Spot,
 ) -> Pixel
     requires sheet { k < length s.now.sheets }
-    requires room { HasRoom (8388608 * depth + 4194304) p }
+    requires room { HasRoom (sheet_reach * depth + peg_reach) p }
     ensures { result ≡ column_within s.now (pictures_in drawings.now) depth k c row (dropped_of f.now) p }
 {
     let moved = p.less(s.place(k, peg_of(s, k, c), row));
@@ -205,7 +205,7 @@ fn node_at<'a, K: Film>(
     p: Spot,
 ) -> Pixel
     requires sheet { k < length s.now.sheets }
-    requires room { HasRoom (8388608 * depth + 4194304 + 16 * below + 16) p }
+    requires room { HasRoom (room_for depth below + blur_reach) p }
     ensures { result ≡ node_within s.now (pictures_in drawings.now) depth k below n row (dropped_of f.now) p }
 {
     match node_of(s, k, n) {
@@ -250,7 +250,7 @@ fn blurred_at<'a, K: Film>(
 ) -> Pixel
     requires sheet { k < length s.now.sheets }
     requires radius { radius ≤ 16 }
-    requires room { HasRoom (8388608 * depth + 4194304 + 16 * below + 16) p }
+    requires room { HasRoom (room_for depth below + blur_reach) p }
     ensures { result ≡ blurred radius (value_within s.now (pictures_in drawings.now) depth k below input row (dropped_of f.now)) p }
 {
     let side = 2 * radius + 1;
@@ -280,7 +280,7 @@ fn line_sums<'a, K: Film>(
     requires sheet { k < length s.now.sheets }
     requires radius { radius ≤ 16 }
     requires line { j ≤ 2 * radius }
-    requires room { HasRoom (8388608 * depth + 4194304 + 16 * below + 16) p }
+    requires room { HasRoom (room_for depth below + blur_reach) p }
     ensures value { result ≡ sums_at (value_within s.now (pictures_in drawings.now) depth k below input row (dropped_of f.now)) p (line_of radius j (2 * radius + 1)) }
     ensures sums { AreSums (255 * (2 * radius + 1)) result }
 {

@@ -11,10 +11,10 @@ use Rattle.xs_check.specs.Good.{files_of}
 use Rattle.xs_needs.specs.declared.found.Found.{Found}
 use Rattle.xs_needs.specs.declared.found.Gathered.{Gathered}
 use Rattle.xs_needs.specs.Found.{AreWhole, IsSound}
-use Rattle.xs_needs.specs.Fresh.{with_one, gathered}
+use Rattle.xs_schematic.specs.Once.{with_one, with_each}
 use Rattle.xs_needs.specs.Rules.{drawings_over}
 use Rattle.xs_needs.specs.Shown.{Showing, drawings_in, showing_staying, first_stays, second_stays}
-use Rattle.xs_needs.proofs.FreshLemmas.{gathered-nil, gathered-one, gathered-append, gathered-keeps}
+use Rattle.xs_schematic.proofs.OnceLemmas.{with_each-nil, with_each-one, with_each-append, with_each-keeps}
 
 -- what follows from two facts that hold where a call succeeds holds there
 pub OnOk-both : {A E : Type 0} (r : Result A E) (P Q R : Type 0) → (P → Q → R) → OnOk r P → OnOk r Q → OnOk r R
@@ -24,27 +24,27 @@ OnOk-both (Err e) P Q R leads first second = tt
 -- a pair: first the drawings of the first input if it stays, then those of the second if that stays
 pub gathered-pair :
     (known : List ℕ) (stays : Staying) (a b : Showing)
-    → gathered (gathered known (cond (first_stays stays) (drawings_in a) [])) (cond (second_stays stays) (drawings_in b) [])
-    ≡ gathered known (drawings_in (showing_staying stays a b))
-gathered-pair known Both a b = sym (gathered-append known (drawings_in a) (drawings_in b))
-gathered-pair known First a b = gathered-nil (gathered known (drawings_in a))
-gathered-pair known Second a b = ap (λ l. gathered l (drawings_in b)) (gathered-nil known)
-gathered-pair known Neither a b = gathered-nil (gathered known [])
+    → with_each (with_each known (cond (first_stays stays) (drawings_in a) [])) (cond (second_stays stays) (drawings_in b) [])
+    ≡ with_each known (drawings_in (showing_staying stays a b))
+gathered-pair known Both a b = sym (with_each-append known (drawings_in a) (drawings_in b))
+gathered-pair known First a b = with_each-nil (with_each known (drawings_in a))
+gathered-pair known Second a b = ap (λ l. with_each l (drawings_in b)) (with_each-nil known)
+gathered-pair known Neither a b = with_each-nil (with_each known [])
 
 -- columns and nodes that lie over one another, from the last on
 pub over-start :
-    (known : List ℕ) (E : Ref → Showing) (ts : List Ref) → known ≡ gathered known (drawings_over E (drop (length ts) ts))
+    (known : List ℕ) (E : Ref → Showing) (ts : List Ref) → known ≡ with_each known (drawings_over E (drop (length ts) ts))
 over-start known E ts =
-    sym (gathered-nil known) ∙ ap (λ l. gathered known (drawings_over E l)) (sym (drop-length ts))
+    sym (with_each-nil known) ∙ ap (λ l. with_each known (drawings_over E l)) (sym (drop-length ts))
 
 pub over-step :
     (known : List ℕ) (E : Ref → Showing) (ts : List Ref) (i above : ℕ) (d : Ref) → above ≡ suc i → i < length ts
-    → gathered (gathered known (drawings_over E (drop above ts))) (drawings_in (E (get_or ts i d)))
-    ≡ gathered known (drawings_over E (drop i ts))
+    → with_each (with_each known (drawings_over E (drop above ts))) (drawings_in (E (get_or ts i d)))
+    ≡ with_each known (drawings_over E (drop i ts))
 over-step known E ts i above d next lt =
-    sym (gathered-append known (drawings_over E (drop above ts)) (drawings_in (E (get_or ts i d))))
-    ∙ ap (λ m. gathered known (drawings_over E (drop m ts) ++ drawings_in (E (get_or ts i d)))) next
-    ∙ sym (ap (λ us. gathered known (drawings_over E us)) (drop-cons ts i d lt))
+    sym (with_each-append known (drawings_over E (drop above ts)) (drawings_in (E (get_or ts i d))))
+    ∙ ap (λ m. with_each known (drawings_over E (drop m ts) ++ drawings_in (E (get_or ts i d)))) next
+    ∙ sym (ap (λ us. with_each known (drawings_over E us)) (drop-cons ts i d lt))
 
 -- what is remembered stays sound
 pub sound-note :
@@ -78,5 +78,5 @@ sound-add s found g d sound there added same =
   where
     keeps : (x : ℕ) → Contains found.gathered.drawings.keys x → Contains (with_one found.gathered.drawings.keys d) x
     keeps x at =
-        subst (λ (l : List ℕ). Contains l x) (gathered-one found.gathered.drawings.keys d)
-        (gathered-keeps found.gathered.drawings.keys (d ∷ []) x at)
+        subst (λ (l : List ℕ). Contains l x) (with_each-one found.gathered.drawings.keys d)
+        (with_each-keeps found.gathered.drawings.keys (d ∷ []) x at)

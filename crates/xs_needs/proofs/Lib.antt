@@ -1,4 +1,3 @@
-pub mod FreshLemmas
 pub mod Remembered
 pub mod Showings
 pub mod Ways

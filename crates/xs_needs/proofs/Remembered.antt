@@ -1,8 +1,8 @@
 -- Spots that compare as equal are the same, and what is remembered stays right
-use Rattle.std.proofs.Common.{◌≡◌, ℕ, true, Bool, ◌&&◌, eqb, Option, Some, None, IfSome, List, [], ◌∷◌, ◌++◌, All, Contains, refl, ap, subst}
+use Rattle.std.proofs.Common.{◌≡◌, ℕ, true, false, Bool, cond, ◌&&◌, ◌||◌, eqb, Option, Some, None, IfSome, IsSome, is_some, List, [], ◌∷◌, ◌++◌, All, Contains, refl, sym, ap, ◌∙◌, subst}
 use Rattle.std.specs.List.{list_any}
 use Rattle.std.specs.Map.{lookup}
-use Rattle.std.proofs.lemmas.Bool.{eqb-true}
+use Rattle.std.proofs.lemmas.Bool.{eqb-true, eq-eqb, and_from}
 use Rattle.std.proofs.lemmas.List.Elements.{All-head, All-tail, All-cons, All-push, All-contains}
 use Rattle.std.proofs.lemmas.Map.Views.{Contains-from_any, IfSome-lookup}
 use Rattle.indexmap.specs.IndexMap.{insert_entry}
@@ -13,7 +13,7 @@ use Rattle.xs_needs.specs.declared.spot.At.{At}
 use Rattle.xs_needs.specs.declared.spot.At.TheVariants.{Row, Column, Node}
 use Rattle.xs_needs.specs.declared.spot.Spot.{Spot}
 use Rattle.xs_needs.specs.contracts.spot.AtPartialEq.TheImpl as at_equality
-use Rattle.xs_needs.specs.contracts.spot.SpotPartialEq.TheImpl as equality
+use Rattle.xs_needs.specs.Spots.{same_spot}
 use Rattle.xs_needs.specs.Rules.{drawings_at, is_clear_at}
 use Rattle.xs_needs.specs.Found.{AreRight, AreWhole}
 
@@ -28,7 +28,7 @@ at_exact (Node c) Row same = cc
 at_exact (Node c) (Column d) same = cc
 at_exact (Node c) (Node d) same = ap Node (eqb-true c d same)
 
-pub exact : (x y : Spot) → (equality.eq-value).it x y ≡ true → x ≡ y
+exact : (x y : Spot) → same_spot x y ≡ true → x ≡ y
 exact x y same =
     let first = both_true (eqb x.sheet y.sheet) ((at_equality.eq-value).it x.at y.at && eqb x.row y.row) same in
     let rest = both_true ((at_equality.eq-value).it x.at y.at) (eqb x.row y.row) first.1 in
@@ -37,32 +37,81 @@ exact x y same =
     let row : x.row ≡ y.row = eqb-true x.row y.row rest.1 in
     λ i. record { sheet = sheet i; at = at i; row = row i }
 
-module _ (eq : Spot → Spot → Bool) (same : (x y : Spot) → eq x y ≡ true → x ≡ y) where
-  pub All-insert_entry :
-      (P : Spot × Bool → Type 0) (es : List (Spot × Bool)) (k : Spot) (v : Bool)
-      → All P es → P (k, v) → All P (insert_entry eq es k v)
-  All-insert_entry P [] k v all here = All-cons P (k, v) [] here all
-  All-insert_entry P (e ∷ es) k v all here =
-      by_test (All P) (eq k e.0) ((e.0, v) ∷ es) (e ∷ insert_entry eq es k v)
-      (λ passes. All-cons P (e.0, v) es (subst (λ (q : Spot). P (q, v)) (same k e.0 passes) here) (All-tail P e es all))
-      (λ fails. All-cons P e (insert_entry eq es k v) (All-head P e es all) (All-insert_entry P es k v (All-tail P e es all) here))
+at_same : (a : At) → (at_equality.eq-value).it a a ≡ true
+at_same Row = refl
+at_same (Column c) = eq-eqb c c refl
+at_same (Node n) = eq-eqb n n refl
 
-  pub All-insert_key :
-      (P : Spot → Type 0) (ks : List Spot) (k : Spot) → All P ks → P k → All P (insert_key eq ks k)
-  All-insert_key P ks k all here =
-      by_test (All P) (list_any (eq k) ks) ks (ks ++ k ∷ []) (λ passes. all) (λ fails. All-push P ks k all here)
+same : (p : Spot) → same_spot p p ≡ true
+same p =
+    and_from _ _ (eq-eqb p.sheet p.sheet refl) (and_from _ _ (at_same p.at) (eq-eqb p.row p.row refl))
 
-  pub right-lookup :
-      (s : SceneRecord) (es : List (Spot × Bool)) (k : Spot) → AreRight s es
-      → IfSome (lookup (eq k) es) (λ clear. clear ≡ is_clear_at s k)
-  right-lookup s es k all = found (lookup (eq k) es) (IfSome-lookup same k es)
-    where
-      found : (o : Option Bool) → IfSome o (λ v. Contains es (k, v)) → IfSome o (λ clear. clear ≡ is_clear_at s k)
-      found None here = tt
-      found (Some v) here = All-contains (λ e. e.1 ≡ is_clear_at s e.0) es (k, v) all here
+-- ---- flags
 
-  pub whole-any :
-      (s : SceneRecord) (drawings : List ℕ) (ks : List Spot) (k : Spot) → AreWhole s drawings ks
-      → list_any (eq k) ks ≡ true → All (Contains drawings) (drawings_at s k)
-  whole-any s drawings ks k all passes =
-      All-contains (λ p. All (Contains drawings) (drawings_at s p)) ks k all (Contains-from_any same k ks passes)
+right-insert :
+    (s : SceneRecord) (es : List (Spot × Bool)) (p : Spot) (v : Bool)
+    → AreRight s es → v ≡ is_clear_at s p → AreRight s (insert_entry same_spot es p v)
+right-insert s [] p v all here = All-cons (λ e. e.1 ≡ is_clear_at s e.0) (p, v) [] here all
+right-insert s (e ∷ es) p v all here =
+    let P : Spot × Bool → Type 0 = λ e. e.1 ≡ is_clear_at s e.0 in
+    by_test (All P) (same_spot p e.0) ((e.0, v) ∷ es) (e ∷ insert_entry same_spot es p v)
+    (λ passes. All-cons P (e.0, v) es (subst (λ (q : Spot). v ≡ is_clear_at s q) (exact p e.0 passes) here) (All-tail P e es all))
+    (λ fails. All-cons P e (insert_entry same_spot es p v) (All-head P e es all) (right-insert s es p v (All-tail P e es all) here))
+
+-- one more right flag
+pub right-noted :
+    (s : SceneRecord) (es new : List (Spot × Bool)) (p : Spot) (v : Bool) → new ≡ insert_entry same_spot es p v
+    → AreRight s es → v ≡ is_clear_at s p → AreRight s new
+right-noted s es new p v is all here = subst (AreRight s) (sym is) (right-insert s es p v all here)
+
+-- a flag that is found is right
+pub right-found :
+    (s : SceneRecord) (es : List (Spot × Bool)) (p : Spot) (v : Bool) → AreRight s es → lookup (same_spot p) es ≡ Some v
+    → v ≡ is_clear_at s p
+right-found s es p v all is =
+    All-contains (λ e. e.1 ≡ is_clear_at s e.0) es (p, v) all
+    (subst (λ (o : Option Bool). IfSome o (λ v. Contains es (p, v))) is (IfSome-lookup exact p es))
+
+-- a flag that was noted is found
+lookup-insert : (es : List (Spot × Bool)) (p : Spot) (v : Bool) → IsSome (lookup (same_spot p) (insert_entry same_spot es p v))
+lookup-insert [] p v = ap (λ b. is_some (cond b (Some v) None)) (same p)
+lookup-insert (e ∷ es) p v =
+    by_test (λ (new : List (Spot × Bool)). IsSome (lookup (same_spot p) new)) (same_spot p e.0) ((e.0, v) ∷ es) (e ∷ insert_entry same_spot es p v)
+    (λ passes. ap (λ b. is_some (cond b (Some v) (lookup (same_spot p) es))) passes)
+    (λ fails. ap (λ b. is_some (cond b (Some e.1) (lookup (same_spot p) (insert_entry same_spot es p v)))) fails ∙ lookup-insert es p v)
+
+pub found-noted :
+    (es new : List (Spot × Bool)) (p : Spot) (v : Bool) → new ≡ insert_entry same_spot es p v → IsSome (lookup (same_spot p) new)
+found-noted es new p v is = subst (λ (es : List (Spot × Bool)). IsSome (lookup (same_spot p) es)) (sym is) (lookup-insert es p v)
+
+-- ---- spots whose drawings are all there
+
+-- one more
+pub whole-noted :
+    (s : SceneRecord) (drawings : List ℕ) (ps new : List Spot) (p : Spot) → new ≡ insert_key same_spot ps p
+    → AreWhole s drawings ps → All (Contains drawings) (drawings_at s p) → AreWhole s drawings new
+whole-noted s drawings ps new p is all here =
+    let P : Spot → Type 0 = λ p. All (Contains drawings) (drawings_at s p) in
+    subst (All P) (sym is)
+    (by_test (All P) (list_any (same_spot p) ps) ps (ps ++ p ∷ []) (λ passes. all) (λ fails. All-push P ps p all here))
+
+pub whole-found :
+    (s : SceneRecord) (drawings : List ℕ) (ps : List Spot) (p : Spot) → AreWhole s drawings ps
+    → list_any (same_spot p) ps ≡ true → All (Contains drawings) (drawings_at s p)
+whole-found s drawings ps p all passes =
+    All-contains (λ p. All (Contains drawings) (drawings_at s p)) ps p all (Contains-from_any exact p ps passes)
+
+-- a spot that was noted is found
+pub listed-noted : (ps new : List Spot) (p : Spot) → new ≡ insert_key same_spot ps p → list_any (same_spot p) new ≡ true
+listed-noted ps new p is =
+    subst (λ (ps : List Spot). list_any (same_spot p) ps ≡ true) (sym is)
+    (by_test (λ (ps : List Spot). list_any (same_spot p) ps ≡ true) (list_any (same_spot p) ps) ps (ps ++ p ∷ []) (λ passes. passes)
+    (λ fails. list_any-last ps))
+  where
+    or-true : (b : Bool) → (b || true) ≡ true
+    or-true true = refl
+    or-true false = refl
+
+    list_any-last : (ps : List Spot) → list_any (same_spot p) (ps ++ p ∷ []) ≡ true
+    list_any-last [] = ap (λ b. b || false) (same p)
+    list_any-last (q ∷ qs) = ap (λ b. same_spot p q || b) (list_any-last qs) ∙ or-true (same_spot p q)

@@ -1,4 +1,4 @@
-pub mod Fresh
 pub mod Shown
 pub mod Rules
+pub mod Spots
 pub mod Found

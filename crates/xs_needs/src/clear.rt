@@ -1,10 +1,12 @@
 //! Whether a spot is clear. Each spot is asked once.
 
-ghost use Rattle.std.specs.Prelude.{◌≡◌, ◌≤◌, ◌<◌, ◌-◌, All, IfOk, OnOk, is_none, length};
+ghost use Rattle.std.specs.Prelude.{◌≡◌, ◌≤◌, ◌<◌, ◌-◌, All, IfOk, OnOk, IsSome, is_none, length};
 ghost use Rattle.std.specs.List.{list_all};
+ghost use Rattle.indexmap.specs.IndexMap.{get};
 ghost use Rattle.xs_meaning.specs.Ends.{AllEnd};
 ghost use Rattle.xs_needs.specs.Found.{AreRight};
 ghost use Rattle.xs_needs.specs.Rules.{AreThere, LeadsTo, WaysEnd, is_clear_at, shown, showing_by, input_spot};
+ghost use Rattle.xs_needs.specs.Spots.{same_spot};
 
 use crate::found::Known;
 use crate::pairs::pair_is_clear;
@@ -15,7 +17,7 @@ use xs_check::GoodScene;
 use xs_pixel::Memory;
 use xs_scene::Ref;
 
-/// Whether a spot is clear. The ways from it have at most `left` spots.
+/// Whether a spot is clear, which is remembered. The ways from it have at most `left` spots.
 #[cycle(clear)]
 pub fn is_clear(
     alloc: Global,
@@ -30,6 +32,7 @@ pub fn is_clear(
     requires known { AreRight s.now known.old.flags.entries }
     ensures clear { IfOk result (λ clear. clear ≡ is_clear_at s.now spot) }
     ensures known { OnOk result (AreRight s.now known.new.flags.entries) }
+    ensures noted { OnOk result (IsSome (get same_spot known.new.flags spot)) }
 {
     if let Some(clear) = known.find(spot) {
         return Ok(clear);

@@ -1,10 +1,10 @@
 //! What is remembered while the drawings of a row are gathered.
 
-ghost use Rattle.std.specs.Prelude.{◌≡◌, ℕ, true, [], All, IfSome, IfOk, OnOk, Contains};
-ghost use Rattle.xs_scene.specs.Records.{SceneRecord};
-ghost use Rattle.xs_needs.specs.Fresh.{with_one};
-ghost use Rattle.xs_needs.specs.Rules.{drawings_at, is_clear_at};
-ghost use Rattle.xs_needs.specs.Found.{AreRight, AreWhole};
+ghost use Rattle.std.specs.Prelude.{◌≡◌, [], IfOk, OnOk};
+ghost use Rattle.indexmap.specs.IndexMap.{get, insert_entry};
+ghost use Rattle.indexmap.specs.IndexSet.{contains, insert_key};
+ghost use Rattle.xs_schematic.specs.Once.{with_one};
+ghost use Rattle.xs_needs.specs.Spots.{same_spot};
 
 use crate::spot::Spot;
 use indexmap::{IndexMap, IndexSet};
@@ -20,7 +20,7 @@ pub struct Known {
 impl Known {
     /// Nothing was asked yet.
     pub fn new(alloc: Global) -> Known
-        ensures { (s : SceneRecord) → AreRight s result.flags.entries }
+        ensures { result.flags.entries ≡ [] }
     {
         Known {
             flags: IndexMap::new(alloc),
@@ -29,16 +29,14 @@ impl Known {
 
     /// Whether a spot is clear, if it was asked.
     pub fn find(&self, spot: Spot) -> Option<bool>
-        ensures { (s : SceneRecord) → AreRight s self.now.flags.entries
-            → IfSome result (λ clear. clear ≡ is_clear_at s spot) }
+        ensures { result ≡ get same_spot self.now.flags spot }
     {
         self.flags.get(&spot).copied()
     }
 
     /// Remembers whether a spot is clear.
     pub fn note(&mut self, spot: Spot, clear: bool) -> Result<(), Memory>
-        ensures { OnOk result ((s : SceneRecord) → AreRight s self.old.flags.entries
-            → clear ≡ is_clear_at s spot → AreRight s self.new.flags.entries) }
+        ensures { OnOk result (self.new.flags.entries ≡ insert_entry same_spot self.old.flags.entries spot clear) }
     {
         match self.flags.insert(spot, clear) {
             Ok(_) => Ok(()),
@@ -68,8 +66,7 @@ impl Gathered {
 
     /// Whether all drawings of a spot are known to be gathered.
     pub fn has_all_of(&self, spot: Spot) -> bool
-        ensures { (s : SceneRecord) → AreWhole s self.now.drawings.keys self.now.whole.keys
-            → result ≡ true → All (Contains self.now.drawings.keys) (drawings_at s spot) }
+        ensures { result ≡ contains same_spot self.now.whole spot }
     {
         self.whole.contains(&spot)
     }
@@ -88,10 +85,7 @@ impl Gathered {
     /// Remembers that all drawings of a spot are gathered.
     pub fn note(&mut self, spot: Spot) -> Result<(), Memory>
         ensures drawings { OnOk result (self.new.drawings.keys ≡ self.old.drawings.keys) }
-        ensures whole { OnOk result ((s : SceneRecord)
-            → AreWhole s self.old.drawings.keys self.old.whole.keys
-            → All (Contains self.old.drawings.keys) (drawings_at s spot)
-            → AreWhole s self.new.drawings.keys self.new.whole.keys) }
+        ensures whole { OnOk result (self.new.whole.keys ≡ insert_key same_spot self.old.whole.keys spot) }
     {
         match self.whole.insert(spot) {
             Ok(_) => Ok(()),

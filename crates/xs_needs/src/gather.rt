@@ -1,11 +1,13 @@
 //! The drawings of a spot, gathered in the order of the walk. Each spot is gone through once.
 
-ghost use Rattle.std.specs.Prelude.{◌≡◌, ◌≤◌, ◌<◌, ◌-◌, [], All, OnOk, length, if◌then◌else◌};
+ghost use Rattle.std.specs.Prelude.{◌≡◌, ◌≤◌, ◌<◌, ◌-◌, [], All, OnOk, IsTrue, length, if◌then◌else◌};
+ghost use Rattle.indexmap.specs.IndexSet.{contains};
 ghost use Rattle.xs_meaning.specs.Ends.{AllEnd};
 ghost use Rattle.xs_meaning.specs.Expressions.{staying as staying_of};
 ghost use Rattle.xs_needs.specs.Found.{IsSound};
-ghost use Rattle.xs_needs.specs.Fresh.{gathered};
+ghost use Rattle.xs_schematic.specs.Once.{with_each};
 ghost use Rattle.xs_needs.specs.Rules.{AreThere, LeadsTo, WaysEnd, drawings_at, is_clear_at, drawings_over, shown, showing_by, input_spot};
+ghost use Rattle.xs_needs.specs.Spots.{same_spot};
 ghost use Rattle.xs_needs.specs.Shown.{drawings_in, showing_staying};
 
 use crate::clear::is_clear;
@@ -18,7 +20,8 @@ use xs_check::GoodScene;
 use xs_pixel::{Memory, Op};
 use xs_scene::Ref;
 
-/// Gathers the drawings of a spot. The ways from it have at most `left` spots.
+/// Gathers the drawings of a spot, and remembers that they are gathered. The ways from it have at most
+/// `left` spots.
 #[cycle(gather)]
 pub fn gather(
     alloc: Global,
@@ -32,8 +35,9 @@ pub fn gather(
     requires ends { WaysEnd s.now left spot }
     requires sound { IsSound s.now found.old }
     ensures drawings { OnOk result (found.new.gathered.drawings.keys
-        ≡ gathered found.old.gathered.drawings.keys (drawings_at s.now spot)) }
+        ≡ with_each found.old.gathered.drawings.keys (drawings_at s.now spot)) }
     ensures sound { OnOk result (IsSound s.now found.new) }
+    ensures noted { OnOk result (IsTrue (contains same_spot found.new.gathered.whole spot)) }
 {
     if found.gathered.has_all_of(spot) {
         return Ok(());
@@ -59,7 +63,7 @@ fn gather_by(
     requires ends { LeadsTo (WaysEnd s.now (left - 1)) spot.sheet spot.row rule.now }
     requires sound { IsSound s.now found.old }
     ensures drawings { OnOk result (found.new.gathered.drawings.keys
-        ≡ gathered found.old.gathered.drawings.keys
+        ≡ with_each found.old.gathered.drawings.keys
         (drawings_in (showing_by s.now (shown s.now) spot.sheet spot.row rule.now))) }
     ensures sound { OnOk result (IsSound s.now found.new) }
 {
@@ -91,7 +95,7 @@ fn gather_pair(
     requires ends_second { WaysEnd s.now left inputs.1 }
     requires sound { IsSound s.now found.old }
     ensures drawings { OnOk result (found.new.gathered.drawings.keys
-        ≡ gathered found.old.gathered.drawings.keys
+        ≡ with_each found.old.gathered.drawings.keys
         (drawings_in (showing_staying (staying_of op (is_clear_at s.now inputs.0) (is_clear_at s.now inputs.1))
         (shown s.now inputs.0) (shown s.now inputs.1)))) }
     ensures sound { OnOk result (IsSound s.now found.new) }
@@ -119,7 +123,7 @@ fn gather_if(
     requires ends { WaysEnd s.now left spot }
     requires sound { IsSound s.now found.old }
     ensures drawings { OnOk result (found.new.gathered.drawings.keys
-        ≡ gathered found.old.gathered.drawings.keys (if wanted then drawings_at s.now spot else [])) }
+        ≡ with_each found.old.gathered.drawings.keys (if wanted then drawings_at s.now spot else [])) }
     ensures sound { OnOk result (IsSound s.now found.new) }
 {
     if wanted {
@@ -145,7 +149,7 @@ fn gather_over(
     requires ends { All (λ t. WaysEnd s.now left (input_spot spot.sheet t spot.row)) terminals.now }
     requires sound { IsSound s.now found.old }
     ensures drawings { OnOk result (found.new.gathered.drawings.keys
-        ≡ gathered found.old.gathered.drawings.keys
+        ≡ with_each found.old.gathered.drawings.keys
         (drawings_over (λ t. shown s.now (input_spot spot.sheet t spot.row)) terminals.now)) }
     ensures sound { OnOk result (IsSound s.now found.new) }
 {

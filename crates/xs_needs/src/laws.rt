@@ -1,29 +1,16 @@
-//! Laws of lists that hold each number once, and of what is shown at a spot.
+//! Laws of what is shown at a spot.
 
-ghost use Rattle.std.specs.Prelude.{◌≡◌, ◌≢◌, ◌≤◌, ℕ, ◌++◌, [], List, Contains, All, AllPairs, length};
+ghost use Rattle.std.specs.Prelude.{◌≡◌, ◌≤◌, ℕ, length};
 ghost use Rattle.xs_meaning.specs.Ends.{AllEnd};
 ghost use Rattle.xs_meaning.specs.Expressions.{is_clear, drawings_of, row_expr};
 ghost use Rattle.xs_meaning.specs.Palettes.{Dropped};
 ghost use Rattle.xs_meaning.specs.Points.{Point};
 ghost use Rattle.xs_meaning.specs.Walk.{sheet_at};
-ghost use Rattle.xs_needs.specs.Fresh.{fresh, each_once};
 ghost use Rattle.xs_needs.specs.Rules.{spot, shown, drawings_at, is_clear_at, rule_of, showing_by, WaysEnd};
 ghost use Rattle.xs_needs.specs.declared.spot.Spot.{Spot};
 ghost use Rattle.xs_scene.specs.Records.{SceneRecord};
 
 use crate::spot::At;
-
-/// Lists are gone through one after another, and a list of which each number was taken once has the same
-/// new numbers.
-pub fn each_number_is_taken_once()
-    ensures one_after_another { (known xs ys : List ℕ)
-        → fresh known (xs ++ ys) ≡ fresh known xs ++ fresh (known ++ fresh known xs) ys }
-    ensures once_is_enough { (known xs : List ℕ) → fresh known (each_once xs) ≡ fresh known xs }
-    ensures nothing_new { (known xs : List ℕ) → All (Contains known) xs → fresh known xs ≡ [] }
-    ensures members { (known xs : List ℕ) (d : ℕ) → Contains (fresh known xs) d → Contains xs d }
-    ensures found { (known xs : List ℕ) → All (Contains (known ++ fresh known xs)) xs }
-    ensures once { (xs : List ℕ) → AllPairs (λ a b. a ≢ b) (each_once xs) }
-{}
 
 /// Whether a row is clear and what drawings it has know neither the offset nor the dropped styles, and
 /// are told rule by rule. The ways from spot to spot end.

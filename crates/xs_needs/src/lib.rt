@@ -2,14 +2,14 @@
 //! sheets that are shared are gone through once.
 #![tactic(auto)]
 
-pub mod clear;
-pub mod found;
-pub mod gather;
+mod clear;
+mod found;
+mod gather;
 pub mod laws;
-pub mod needs;
-pub mod pairs;
-pub mod rule;
-pub mod spot;
+mod needs;
+mod pairs;
+mod rule;
+mod spot;
 
 pub use needs::row_drawings;
 

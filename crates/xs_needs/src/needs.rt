@@ -1,7 +1,7 @@
 ghost use Rattle.std.specs.Prelude.{◌≡◌, ◌<◌, All, IfOk, length};
 ghost use Rattle.xs_check.specs.Good.{files_of};
 ghost use Rattle.xs_meaning.specs.Expressions.{drawings_of, root_of};
-ghost use Rattle.xs_needs.specs.Fresh.{each_once};
+ghost use Rattle.xs_schematic.specs.Once.{each_once};
 
 use crate::found::{Found, Gathered, Known};
 use crate::gather::gather;

@@ -1,3 +1,4 @@
+pub mod OnceLemmas
 pub mod Standing
 pub mod OrderLemmas
 pub mod WrittenOut

@@ -10,9 +10,12 @@ use Rattle.xs_scene.specs.declared.node.Node.TheVariants.{Pair, Card, Shuffle, B
 use Rattle.xs_scene.specs.Records.{SheetRecord}
 use Rattle.xs_meaning.specs.Ends.{NodesEnd, InputsHave}
 use Rattle.xs_meaning.proofs.Lists.{by_test}
+use Rattle.xs_meaning.specs.Palettes.{is_listed}
+use Rattle.xs_schematic.specs.Once.{with_one}
 use Rattle.xs_schematic.specs.Order.{IsOrderable, IsOrder}
-use Rattle.xs_schematic.specs.Visits.{nodes_of, inputs_of, inputs_in, stands_in, put_last, visit_all, visit_node, visits_of}
-use Rattle.xs_schematic.proofs.Standing.{IsBegun, IsBegun-nil, IsVisited, IsVisited-put_last, AreVisited-visit_all, Contains-stands}
+use Rattle.xs_schematic.specs.Visits.{nodes_of, inputs_of, inputs_in, visit_all, visit_node, visits_of}
+use Rattle.xs_schematic.proofs.Standing.{IsBegun, IsBegun-nil, IsVisited, IsVisited-with_one, AreVisited-visit_all}
+use Rattle.xs_schematic.proofs.OnceLemmas.{Contains-listed}
 
 pub Each-append : (P : ℕ → Type 0) (xs ys : List ℕ) → Each P xs → Each P ys → Each P (xs ++ ys)
 Each-append P [] ys first second = second
@@ -65,9 +68,9 @@ IsVisited-visit_node k orderable (suc m) n node ends order begun =
     (λ x is. IsVisited-visit_node k orderable m x is.0 is.1) inputs each order begun
     in
     let new = visit_all (visit_node nodes m) inputs order in
-    let put = IsVisited-put_last nodes new n node (All-from_recursion (Contains new) inputs all.has) all.begun in
-    by_test (IsVisited nodes order n) (stands_in order n) order (put_last n new)
-    (λ stands. record { begun = begun; keeps = λ x at. at; has = Contains-stands order n stands })
+    let put = IsVisited-with_one nodes new n node (All-from_recursion (Contains new) inputs all.has) all.begun in
+    by_test (IsVisited nodes order n) (is_listed order n) order (with_one new n)
+    (λ stands. record { begun = begun; keeps = λ x at. at; has = Contains-listed order n stands })
     (λ fails. record { begun = put.begun; keeps = λ x at. put.keeps x (all.keeps x at); has = put.has })
 
 -- the numbers of all nodes are those of nodes whose ways end
@@ -125,19 +128,19 @@ visit_node-zero nodes zero n order none = refl
 visit_node-zero nodes (suc m) n order none = absurd (omega arith)
 
 -- a node that stands in the order is not visited again
-pub visit_node-stands : (nodes : List Node) (m n : ℕ) (order : List ℕ) → stands_in order n ≡ true → order ≡ visit_node nodes m n order
+pub visit_node-stands : (nodes : List Node) (m n : ℕ) (order : List ℕ) → is_listed order n ≡ true → order ≡ visit_node nodes m n order
 unfolding visit_node
 visit_node-stands nodes zero n order stands = refl
 visit_node-stands nodes (suc m) n order stands =
-    sym (ap (λ b. cond b order (put_last n (visit_all (visit_node nodes m) (inputs_in nodes n) order))) stands)
+    sym (ap (λ b. cond b order (with_one (visit_all (visit_node nodes m) (inputs_in nodes n) order) n)) stands)
 
 -- another one comes after its inputs
 pub visit_node-new :
-    (nodes : List Node) (m n : ℕ) (order first second : List ℕ) (inputs : List ℕ × List ℕ) → 1 ≤ m → stands_in order n ≡ false
+    (nodes : List Node) (m n : ℕ) (order first second : List ℕ) (inputs : List ℕ × List ℕ) → 1 ≤ m → is_listed order n ≡ false
     → inputs.0 ++ inputs.1 ≡ inputs_in nodes n
     → first ≡ visit_all (visit_node nodes (m - 1)) inputs.0 order
     → second ≡ visit_all (visit_node nodes (m - 1)) inputs.1 first
-    → put_last n second ≡ visit_node nodes m n order
+    → with_one second n ≡ visit_node nodes m n order
 unfolding visit_node
 visit_node-new nodes zero n order first second inputs positive fails are visited both = absurd (omega arith)
 visit_node-new nodes (suc m) n order first second inputs positive fails are visited both =
@@ -148,7 +151,7 @@ visit_node-new nodes (suc m) n order first second inputs positive fails are visi
     ∙ ap (visit_all v inputs.1) (visited ∙ ap (λ l. visit_all (visit_node nodes l) inputs.0 order) less)
     ∙ sym (visit_all-append v inputs.0 inputs.1 order) ∙ ap (λ ns. visit_all v ns order) are
     in
-    ap (put_last n) all ∙ sym (ap (λ b. cond b order (put_last n (visit_all v (inputs_in nodes n) order))) fails)
+    ap (λ (was : List ℕ). with_one was n) all ∙ sym (ap (λ b. cond b order (with_one (visit_all v (inputs_in nodes n) order) n)) fails)
 
 -- once all numbers are visited
 pub visits-all :

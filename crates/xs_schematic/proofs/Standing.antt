@@ -1,28 +1,17 @@
 -- What stands in an order
 use Rattle.std.proofs.Common.{◌≡◌, ◌≢◌, ℕ, zero, suc, ◌+◌, ◌<◌, ◌≤◌, Bool, true, false, ◌||◌, cond, eqb, length, take, get_or, List, [], ◌∷◌, ◌++◌, All, AllPairs, Contains, refl, sym, ap, ◌∙◌, subst, ⊎_elim, arith}
 use Rattle.std.specs.List.{list_any, AllByRecursion as Each}
-use Rattle.std.proofs.lemmas.Bool.{eqb-true, eq-eqb, both_ways, cases_Bool, cases_lt}
+use Rattle.std.proofs.lemmas.Bool.{cases_lt}
 use Rattle.std.proofs.lemmas.List.{get_or_default, get_or_append_left, get_or_at, take_at, take-append-le, length_push}
 use Rattle.std.proofs.lemmas.List.Elements.{All-push, Contains-push, Contains-append_left}
 use Rattle.std.proofs.lemmas.List.Folds.{list_any_at}
 use Rattle.std.proofs.lemmas.List.Quantifiers.{all_pairs_push}
 use Rattle.xs_scene.specs.declared.node.Node.{Node}
 use Rattle.xs_meaning.proofs.Lists.{by_test}
-use Rattle.xs_schematic.specs.Visits.{inputs_in, stands_in, put_last, visit_all}
-
-stands_first :
-    (x : ℕ) (xs : List ℕ) (n : ℕ) (b : Bool) → eqb x n ≡ b → (b || stands_in xs n) ≡ true
-    → (stands_in xs n ≡ true → Contains xs n) → Contains (x ∷ xs) n
-stands_first x xs n true same stands rest = (0, omega arith, eqb-true x n same)
-stands_first x xs n false same stands rest = let at = rest stands in (suc at.0, omega (arith, at.1), at.2)
-
-pub Contains-stands : (order : List ℕ) (n : ℕ) → stands_in order n ≡ true → Contains order n
-Contains-stands [] n stands = cc
-Contains-stands (x ∷ xs) n stands = stands_first x xs n (eqb x n) refl stands (Contains-stands xs n)
-
-pub stands-Contains : (order : List ℕ) (n : ℕ) → stands_in order n ≡ false → Contains order n → ⊥
-stands-Contains order n fails at =
-    both_ways (stands_in order n) fails (list_any_at (λ m. eqb m n) order at.0 n at.1 (eq-eqb (get_or order at.0 n) n at.2))
+use Rattle.xs_meaning.specs.Palettes.{is_listed}
+use Rattle.xs_schematic.specs.Visits.{inputs_in, visit_all}
+use Rattle.xs_schematic.specs.Once.{with_one}
+use Rattle.xs_schematic.proofs.OnceLemmas.{Contains-listed, unlisted-Contains}
 
 -- an order so far: nodes of the sheet, each once, each after its inputs
 pub record IsBegun (nodes : List Node) (order : List ℕ) : Type 0 where
@@ -67,14 +56,14 @@ pub record IsVisited (nodes : List Node) (old : List ℕ) (n : ℕ) (new : List 
   pub keeps : Keeps old new
   pub has : Contains new n
 
-pub IsVisited-put_last :
+pub IsVisited-with_one :
     (nodes : List Node) (order : List ℕ) (n : ℕ) → n < length nodes → All (Contains order) (inputs_in nodes n)
-    → IsBegun nodes order → IsVisited nodes order n (put_last n order)
-IsVisited-put_last nodes order n node inputs begun =
-    by_test (IsVisited nodes order n) (stands_in order n) order (order ++ n ∷ [])
-    (λ stands. record { begun = begun; keeps = λ x at. at; has = Contains-stands order n stands })
+    → IsBegun nodes order → IsVisited nodes order n (with_one order n)
+IsVisited-with_one nodes order n node inputs begun =
+    by_test (IsVisited nodes order n) (is_listed order n) order (order ++ n ∷ [])
+    (λ stands. record { begun = begun; keeps = λ x at. at; has = Contains-listed order n stands })
     (λ fails. record {
-      begun = IsBegun-push nodes order n node (stands-Contains order n fails) inputs begun;
+      begun = IsBegun-push nodes order n node (unlisted-Contains order n fails) inputs begun;
       keeps = λ x at. Contains-append_left order (n ∷ []) x at;
       has = Contains-push order n;
     })

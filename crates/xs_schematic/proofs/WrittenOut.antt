@@ -2,29 +2,20 @@
 use Rattle.std.proofs.Common.{◌≡◌, ℕ, zero, suc, true, false, cond, ◌<◌, ◌≤◌, length, get_or, take, drop, slice_get, Option, Some, None, List, [], ◌∷◌, ◌++◌, All, Contains, refl, sym, ap, ◌∙◌, subst, arith, fold, flat_map}
 use Rattle.std.specs.List.{range_with_len, AllByRecursion as Each}
 use Rattle.std.proofs.lemmas.List.{get_or_default, take-append-drop}
-use Rattle.std.proofs.lemmas.List.Elements.{recursion_from_All, Contains-append_left}
+use Rattle.std.proofs.lemmas.List.Elements.{All-from_recursion, recursion_from_All, Contains-append_left}
 use Rattle.std.proofs.lemmas.List.FromFn.{length-range_with_len, get_or-range_with_len}
-use Rattle.std.proofs.lemmas.List.Sums.{fold-append}
 use Rattle.xs_scene.specs.declared.node.Ref.TheVariants.{Node as ToNode}
 use Rattle.xs_scene.specs.declared.node.Node.{Node}
 use Rattle.xs_scene.specs.Records.{SheetRecord}
 use Rattle.xs_meaning.specs.Ends.{NodesEnd}
+use Rattle.xs_meaning.specs.Palettes.{is_listed}
 use Rattle.xs_meaning.proofs.Lists.{by_test}
-use Rattle.xs_schematic.specs.Order.{IsOrderable, made_from, all_made_from, put_each, each_once}
-use Rattle.xs_schematic.specs.Visits.{inputs_in, stands_in, put_last, visit_all, visit_node, visits_of}
-use Rattle.xs_schematic.proofs.Standing.{IsBegun, IsBegun-nil, Contains-stands, stands-Contains}
+use Rattle.xs_schematic.specs.Once.{with_one, with_each, each_once}
+use Rattle.xs_schematic.specs.Order.{IsOrderable, made_from, all_made_from}
+use Rattle.xs_schematic.specs.Visits.{inputs_in, visit_all, visit_node, visits_of}
+use Rattle.xs_schematic.proofs.Standing.{IsBegun, IsBegun-nil}
+use Rattle.xs_schematic.proofs.OnceLemmas.{Contains-listed, with_each-nil, with_each-one, with_each-append, with_each-known, with_each-fresh}
 use Rattle.xs_schematic.proofs.OrderLemmas.{Each-append, IsVisited-visit_node, inputs_that_end, numbers_that_end}
-
--- numbers that stand in an order change nothing
-put_each-standing : (ns order : List ℕ) → Each (Contains order) ns → put_each order ns ≡ order
-put_each-standing [] order stand = refl
-put_each-standing (n ∷ ns) order stand =
-    ap (λ (was : List ℕ). put_each was ns) (put_last-standing (stands_in order n) refl)
-    ∙ put_each-standing ns order stand.1
-  where
-    put_last-standing : (b : _) → stands_in order n ≡ b → put_last n order ≡ order
-    put_last-standing true is = ap (λ b. cond b order (order ++ n ∷ [])) is
-    put_last-standing false is = absurd (stands-Contains order n is stand.0)
 
 Contains-of-take : (order : List ℕ) (i x : ℕ) → Contains (take i order) x → Contains order x
 Contains-of-take order i x at =
@@ -60,41 +51,43 @@ made_from-stands nodes order begun (suc m) n stands =
     (recursion_from_All (Contains order) (inputs_in nodes n) (inputs-stand nodes order begun n stands)))
     (stands, tt)
 
-abbrev PutsEach : List Node → ℕ → ℕ → List ℕ → Type 0
-PutsEach nodes m n order = visit_node nodes m n order ≡ put_each order (made_from nodes m n)
+abbrev VisitsEach : List Node → ℕ → ℕ → List ℕ → Type 0
+VisitsEach nodes m n order = visit_node nodes m n order ≡ with_each order (made_from nodes m n)
 
-all-put_each :
+all-with_each :
     (k : SheetRecord) → IsOrderable k → (m : ℕ)
-    → ((n : ℕ) → n < length k.nodes → NodesEnd k m (ToNode n) → (order : List ℕ) → IsBegun k.nodes order → PutsEach k.nodes m n order)
+    → ((n : ℕ) → n < length k.nodes → NodesEnd k m (ToNode n) → (order : List ℕ) → IsBegun k.nodes order → VisitsEach k.nodes m n order)
     → (ns : List ℕ) → Each (λ x. (x < length k.nodes) × NodesEnd k m (ToNode x)) ns → (order : List ℕ) → IsBegun k.nodes order
-    → visit_all (visit_node k.nodes m) ns order ≡ put_each order (flat_map (made_from k.nodes m) ns)
-all-put_each k orderable m step [] each order begun = refl
-all-put_each k orderable m step (x ∷ xs) each order begun =
-    all-put_each k orderable m step xs each.1 (visit_node k.nodes m x order)
+    → visit_all (visit_node k.nodes m) ns order ≡ with_each order (flat_map (made_from k.nodes m) ns)
+all-with_each k orderable m step [] each order begun = sym (with_each-nil order)
+all-with_each k orderable m step (x ∷ xs) each order begun =
+    all-with_each k orderable m step xs each.1 (visit_node k.nodes m x order)
     (IsVisited-visit_node k orderable m x each.0.0 each.0.1 order begun).begun
-    ∙ ap (λ (new : List ℕ). put_each new (flat_map (made_from k.nodes m) xs)) (step x each.0.0 each.0.1 order begun)
-    ∙ sym (fold-append (λ was y. put_last y was) order (made_from k.nodes m x) (flat_map (made_from k.nodes m) xs))
+    ∙ ap (λ (new : List ℕ). with_each new (flat_map (made_from k.nodes m) xs)) (step x each.0.0 each.0.1 order begun)
+    ∙ sym (with_each-append order (made_from k.nodes m x) (flat_map (made_from k.nodes m) xs))
 
 -- where the nodes on its way end, a visit puts each of them behind the order
-pub visit_node-puts_each :
+pub visit_node-with_each :
     (k : SheetRecord) → IsOrderable k → (m n : ℕ) → n < length k.nodes → NodesEnd k m (ToNode n)
-    → (order : List ℕ) → IsBegun k.nodes order → PutsEach k.nodes m n order
+    → (order : List ℕ) → IsBegun k.nodes order → VisitsEach k.nodes m n order
 unfolding NodesEnd visit_node made_from
-visit_node-puts_each k orderable zero n node ends order begun = absurd ends
-visit_node-puts_each k orderable (suc m) n node ends order begun =
+visit_node-with_each k orderable zero n node ends order begun = absurd ends
+visit_node-with_each k orderable (suc m) n node ends order begun =
     let inputs = inputs_in k.nodes n in
-    by_test (λ (new : List ℕ). new ≡ put_each order (made_from k.nodes (suc m) n)) (stands_in order n) order
-    (put_last n (visit_all (visit_node k.nodes m) inputs order))
-    (λ stands. sym (put_each-standing (made_from k.nodes (suc m) n) order
-    (made_from-stands k.nodes order begun (suc m) n (Contains-stands order n stands))))
-    (λ fails. ap (put_last n)
-    (all-put_each k orderable m (visit_node-puts_each k orderable m) inputs (inputs_that_end k orderable m n node ends) order begun)
-    ∙ sym (fold-append (λ was x. put_last x was) order (flat_map (made_from k.nodes m) inputs) (n ∷ [])))
+    by_test (λ (new : List ℕ). new ≡ with_each order (made_from k.nodes (suc m) n)) (is_listed order n) order
+    (with_one (visit_all (visit_node k.nodes m) inputs order) n)
+    (λ stands. sym (with_each-known order (made_from k.nodes (suc m) n)
+    (All-from_recursion (Contains order) (made_from k.nodes (suc m) n)
+    (made_from-stands k.nodes order begun (suc m) n (Contains-listed order n stands)))))
+    (λ fails. ap (λ (was : List ℕ). with_one was n)
+    (all-with_each k orderable m (visit_node-with_each k orderable m) inputs (inputs_that_end k orderable m n node ends) order begun)
+    ∙ sym (with_each-append order (flat_map (made_from k.nodes m) inputs) (n ∷ []) ∙ with_each-one _ n))
 
 -- the visits to all nodes give each of what all nodes are made from, at its first place
 pub visits_of-each_once : (k : SheetRecord) → IsOrderable k → visits_of k.nodes ≡ each_once (all_made_from k.nodes)
 unfolding visits_of
 visits_of-each_once k orderable =
     let count = length k.nodes in
-    all-put_each k orderable count (visit_node-puts_each k orderable count) (range_with_len 0 count)
+    all-with_each k orderable count (visit_node-with_each k orderable count) (range_with_len 0 count)
     (numbers_that_end k orderable) [] (IsBegun-nil k.nodes)
+    ∙ with_each-fresh [] (all_made_from k.nodes)

@@ -1,10 +1,10 @@
-use Rattle.std.specs.Prelude.{ℕ, zero, suc, ◌<◌, ◌≤◌, ◌≢◌, List, [], ◌∷◌, ◌++◌, All, AllPairs, Contains, length, take, fold, flat_map, slice_index, if◌then◌else◌}
+use Rattle.std.specs.Prelude.{ℕ, zero, suc, ◌<◌, ◌≤◌, ◌≢◌, List, [], ◌∷◌, ◌++◌, All, AllPairs, Contains, length, take, flat_map, slice_index}
 use Rattle.std.specs.List.{range_with_len}
 use Rattle.xs_scene.specs.declared.node.Node.{Node}
 use Rattle.xs_scene.specs.declared.node.Ref.TheVariants.{Node as ToNode}
 use Rattle.xs_scene.specs.Records.{SheetRecord}
 use Rattle.xs_meaning.specs.Ends.{NodesEnd}
-use Rattle.xs_schematic.specs.Visits.{inputs_in, put_last}
+use Rattle.xs_schematic.specs.Visits.{inputs_in}
 
 -- what checking finds of a sheet's nodes: they are few, their inputs are there, and no node leads back
 -- to itself
@@ -34,11 +34,3 @@ made_from nodes (suc m) n = flat_map (made_from nodes m) (inputs_in nodes n) ++ 
 -- the same for all nodes by rising number
 abbrev pub all_made_from : List Node → List ℕ
 all_made_from nodes = flat_map (made_from nodes (length nodes)) (range_with_len 0 (length nodes))
-
--- some numbers put one by one behind an order, each unless it stands there already
-abbrev pub put_each : List ℕ → List ℕ → List ℕ
-put_each order ns = fold (λ order n. put_last n order) order ns
-
--- the numbers of a list, each at its first place
-abbrev pub each_once : List ℕ → List ℕ
-each_once ns = put_each [] ns

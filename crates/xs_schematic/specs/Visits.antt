@@ -1,9 +1,11 @@
-use Rattle.std.specs.Prelude.{ℕ, zero, suc, ◌==◌, Bool, Option, Some, None, List, [], ◌∷◌, ◌++◌, length, slice_get, if◌then◌else◌}
-use Rattle.std.specs.List.{list_any, range_with_len}
+use Rattle.std.specs.Prelude.{ℕ, zero, suc, Option, Some, None, List, [], ◌∷◌, ◌++◌, length, slice_get, if◌then◌else◌}
+use Rattle.std.specs.List.{range_with_len}
+use Rattle.xs_meaning.specs.Palettes.{is_listed}
 use Rattle.xs_scene.specs.declared.node.Ref.{Ref}
 use Rattle.xs_scene.specs.declared.node.Ref.TheVariants.{Column as ToColumn, Node as ToNode}
 use Rattle.xs_scene.specs.declared.node.Node.{Node}
 use Rattle.xs_scene.specs.declared.node.Node.TheVariants.{Pair, Card, Shuffle, Blur, Keep, Delete}
+use Rattle.xs_schematic.specs.Once.{with_one}
 
 abbrev pub nodes_of : Ref → List ℕ
 nodes_of (ToColumn c) = []
@@ -22,13 +24,6 @@ inputs_of (Some (Delete input styles)) = nodes_of input ++ []
 abbrev pub inputs_in : List Node → ℕ → List ℕ
 inputs_in nodes n = inputs_of (slice_get nodes n)
 
-abbrev pub stands_in : List ℕ → ℕ → Bool
-stands_in order n = list_any (λ m. m == n) order
-
--- an order with a node at its end, if it doesn't stand there already
-abbrev pub put_last : ℕ → List ℕ → List ℕ
-put_last n order = if stands_in order n then order else order ++ n ∷ []
-
 abbrev pub visit_all : (ℕ → List ℕ → List ℕ) → List ℕ → List ℕ → List ℕ
 visit_all visit [] order = order
 visit_all visit (n ∷ ns) order = visit_all visit ns (visit n order)
@@ -38,9 +33,9 @@ visit_all visit (n ∷ ns) order = visit_all visit ns (visit n order)
 unfoldable pub visit_node : List Node → ℕ → ℕ → List ℕ → List ℕ
 visit_node nodes zero n order = order
 visit_node nodes (suc m) n order =
-    if stands_in order n
+    if is_listed order n
     then order
-    else put_last n (visit_all (visit_node nodes m) (inputs_in nodes n) order)
+    else with_one (visit_all (visit_node nodes m) (inputs_in nodes n) order) n
 
 -- all nodes are visited by rising number
 unfoldable pub visits_of : List Node → List ℕ

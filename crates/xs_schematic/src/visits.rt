@@ -1,7 +1,8 @@
 ghost use Rattle.std.specs.Prelude.{◌≡◌, ◌++◌, IfOk, OnOk};
 ghost use Rattle.std.specs.Option.{option_to_list};
-ghost use Rattle.xs_schematic.specs.Visits.{visit_node, visit_all, inputs_in, nodes_of, put_last};
-ghost use Rattle.xs_schematic.specs.Order.{IsOrderable, IsOrder, each_once, all_made_from};
+ghost use Rattle.xs_schematic.specs.Visits.{visit_node, visit_all, inputs_in, nodes_of};
+ghost use Rattle.xs_schematic.specs.Once.{each_once, with_one};
+ghost use Rattle.xs_schematic.specs.Order.{IsOrderable, IsOrder, all_made_from};
 
 use std::alloc::{AllocError, Global};
 use xs_pixel::Memory;
@@ -61,7 +62,7 @@ fn visit_input(
 /// Puts a node last in an order, unless it stands there. A node that was just visited is new, since none
 /// leads back to itself; the look spares every visit that condition.
 fn put(order: &mut Vec<u32>, number: u32) -> Result<(), Memory>
-    ensures { OnOk result (order.new.items ≡ put_last number order.old.items) }
+    ensures { OnOk result (order.new.items ≡ with_one order.old.items number) }
 {
     if !order.contains(&number) {
         order.push(number).map_err(AllocError::from)?;

@@ -1,5 +1,5 @@
 -- A straight line between two offsets stays between them
-use Rattle.std.proofs.Common.{ℕ, zero, suc, ◌+◌, ◌*◌, ◌/◌, ◌≡◌, ◌≤◌, ◌<◌, ℤ, pos, negsuc, neg_ℤ, ◌+ℤ◌, ◌-ℤ◌, ◌*ℤ◌, ◌≤ℤ◌, unsigned_abs, w32, FitsSigned, sym, ap, ◌∙◌, subst, ◌⊎◌, inl, inr, ⊎_elim, mul_comm, arith}
+use Rattle.std.proofs.Common.{ℕ, zero, suc, ◌*◌, ◌/◌, ◌≡◌, ◌≤◌, ◌<◌, ℤ, pos, negsuc, neg_ℤ, ◌+ℤ◌, ◌-ℤ◌, ◌*ℤ◌, ◌≤ℤ◌, unsigned_abs, w32, FitsSigned, sym, ap, ◌∙◌, subst, ◌⊎◌, inl, inr, ⊎_elim, mul_comm, arith}
 use Rattle.std.specs.Int.{int_div_euclid, cast_signed, cast_unsigned}
 use mathlib.Core.Path.{ap₂}
 use Rattle.std.proofs.Math.Nat.{zero-div, div-le_of_le-mul, div-lt_iff_lt-mul, mul-le-mul_left}

@@ -15,11 +15,6 @@ unfolding place_up
 nothing_up zero k row = refl
 nothing_up (suc n) k row = refl
 
--- past the end of a chain nothing is added
-pub place_up-none : (k : SheetRecord) (row n : ℕ) → place_up (n + 1) k None row ≡ plus (point (pos 0) (pos 0)) (place_up n k None row)
-place_up-none k row n =
-    nothing_up (n + 1) k row ∙ ap (plus (point (pos 0) (pos 0))) (sym (nothing_up n k row))
-
 pub place_up-some :
     (k : SheetRecord) (row i n : ℕ)
     → place_up (n + 1) k (Some i) row ≡ plus (own_offset (peg_at k i).keys row) (place_up n k (peg_at k i).parent row)
@@ -115,4 +110,11 @@ unfolding place_up
 sum_done taken k next row total at done sum =
     ap₂ point (let e : at.x ≡ at.x +ℤ pos 0 = omega (arith, ints) in e) (let e : at.y ≡ at.y +ℤ pos 0 = omega (arith, ints) in e)
     ∙ ap (λ n. plus at (place_up n k next row)) (let e : 0 ≡ 64 - taken = omega arith in e)
+    ∙ sum.1
+
+-- past the end of a chain the sum is whole
+pub sum_ends : (taken : ℕ) (k : SheetRecord) (next : Option ℕ) (row : ℕ) (total at : Point) → next ≡ None → IsSum taken k next row total at → at ≡ total
+sum_ends taken k next row total at none sum =
+    ap₂ point (let e : at.x ≡ at.x +ℤ pos 0 = omega (arith, ints) in e) (let e : at.y ≡ at.y +ℤ pos 0 = omega (arith, ints) in e)
+    ∙ ap (plus at) (sym (nothing_up (64 - taken) k row)) ∙ ap (λ o. plus at (place_up (64 - taken) k o row)) (sym none)
     ∙ sum.1

@@ -1,4 +1,4 @@
-ghost use Rattle.std.specs.Prelude.{◌≡◌, ◌+◌, ℕ};
+ghost use Rattle.std.specs.Prelude.{◌≡◌, ◌+◌, ℕ, Some};
 ghost use Rattle.xs_scene.specs.Ranges.{IsOffset};
 ghost use Rattle.xs_meaning.specs.Bounds.{IsWithin};
 ghost use Rattle.xs_meaning.specs.Places.{place_of, place_up};
@@ -20,7 +20,10 @@ pub fn place(s: &Sheet, peg: Option<u32>, row: u32) -> (i32, i32)
     let mut x = 0;
     let mut y = 0;
     for _taken in 0..LONGEST_CHAIN {
-        let link = link_at(s, next, row);
+        let Some(number) = next else {
+            return (x, y);
+        };
+        let link = link_at(s, number, row);
         x += link.x;
         y += link.y;
         next = link.parent;
@@ -28,7 +31,7 @@ pub fn place(s: &Sheet, peg: Option<u32>, row: u32) -> (i32, i32)
     (x, y)
 }
 
-/// What one peg of a chain adds, and the next one. Past the end of the chain nothing is added.
+/// What one peg of a chain adds, and the next one.
 #[derive(Clone, Copy)]
 struct Link {
     x: i32,
@@ -44,15 +47,12 @@ impl Link {
     };
 }
 
-/// The link of a peg, if there is one.
-fn link_at(s: &Sheet, peg: Option<u32>, row: u32) -> Link
-    ensures link { (n : ℕ) → place_up (n + 1) s.now peg row ≡ plus (point result.x result.y) (place_up n s.now result.parent row) }
+/// The link of a peg by its number. A peg that the sheet lacks adds nothing and has no parent.
+fn link_at(s: &Sheet, number: u32, row: u32) -> Link
+    ensures link { (n : ℕ) → place_up (n + 1) s.now (Some number) row ≡ plus (point result.x result.y) (place_up n s.now result.parent row) }
     ensures across { IsOffset result.x }
     ensures up { IsOffset result.y }
 {
-    let Some(number) = peg else {
-        return Link::END;
-    };
     let Some(peg) = s.pegs.items().get(number as usize) else {
         return Link::END;
     };

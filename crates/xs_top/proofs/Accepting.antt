@@ -6,7 +6,7 @@ use Rattle.xs_json.specs.declared.fault.SceneFault.{SceneFault}
 use Rattle.xs_rawfile.specs.declared.fault.LevelCode.{LevelCode}
 use Rattle.xs_rawfile.specs.Level.{first_fault}
 use Rattle.xs_meaning.specs.Palettes.{is_listed}
-use Rattle.xs_needs.specs.Fresh.{fresh}
+use Rattle.xs_schematic.specs.Once.{fresh}
 use Rattle.xs_scene.specs.Records.{SceneRecord}
 use Rattle.xs_top.specs.declared.TheConstants.{DRAWING_LIMIT}
 use Rattle.xs_top.specs.declared.status.Status.{Status}

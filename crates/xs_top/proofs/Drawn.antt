@@ -26,7 +26,7 @@ use Rattle.xs_top.specs.declared.TheConstants.{DRAWING_LIMIT}
 use Rattle.xs_top.specs.declared.status.Status.TheVariants as answers
 use Rattle.xs_top.specs.Trace.{Outcome}
 use Rattle.xs_top.specs.Outcome.{asking, accepted, loading_drawing, loading}
-use Rattle.xs_needs.specs.Fresh.{fresh, each_once}
+use Rattle.xs_schematic.specs.Once.{fresh, each_once}
 use Rattle.std.specs.List.{range_with_len}
 use Rattle.xs_meaning.specs.Expressions.{drawings_of, root_of}
 use Rattle.xs_top.specs.Levels.{needed}

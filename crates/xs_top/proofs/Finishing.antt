@@ -8,7 +8,7 @@ use Rattle.std.proofs.lemmas.List.Folds.{flat_map-map}
 use Rattle.xs_meaning.specs.Drawings.{Pictures}
 use Rattle.xs_meaning.specs.Palettes.{is_listed}
 use Rattle.xs_meaning.specs.Expressions.{drawings_of, root_of}
-use Rattle.xs_needs.specs.Fresh.{fresh, each_once}
+use Rattle.xs_schematic.specs.Once.{fresh, each_once}
 use Rattle.xs_scene.specs.Records.{SceneRecord}
 use Rattle.xs_top.specs.declared.status.Status.TheVariants as answers
 use Rattle.xs_top.specs.Trace.{Event, Ask, Place, Line, asks, puts, lines, Outcome, ended, after}

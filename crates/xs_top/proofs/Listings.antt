@@ -4,7 +4,7 @@ use Rattle.std.proofs.lemmas.Bool.Decides.{nat_tests}
 use Rattle.std.proofs.lemmas.List.Folds.{list_any-append}
 use Rattle.std.proofs.lemmas.List.{append-nil}
 use Rattle.xs_meaning.specs.Palettes.{is_listed}
-use Rattle.xs_needs.specs.Fresh.{fresh, each_once}
+use Rattle.xs_schematic.specs.Once.{fresh, each_once}
 
 -- two lists name the same numbers
 pub record NameSame (a b : List ℕ) : Type 0 where

@@ -10,7 +10,7 @@ use Rattle.std.proofs.lemmas.Grind.{flat_map-append}
 use Rattle.xs_direct.specs.Pictures.{AreHeld}
 use Rattle.xs_meaning.specs.Drawings.{ArePixels, HoldsPixels}
 use Rattle.xs_meaning.specs.Palettes.{is_listed}
-use Rattle.xs_needs.specs.Fresh.{fresh}
+use Rattle.xs_schematic.specs.Once.{fresh}
 use Rattle.xs_pixel.specs.Channels.{Channels, IsPixel}
 use Rattle.xs_pixel.specs.Rows.{pixels}
 use Rattle.xs_rawfile.specs.declared.drawing.RawKind.{RawKind}

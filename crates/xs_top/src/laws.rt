@@ -1,6 +1,6 @@
 //! Laws of the outcome, in the words of its subject.
 ghost use Rattle.std.specs.Prelude.{◌≡◌, ◌≤◌, ◌+◌, ◌-◌, ◌++◌, ◌∷◌, [], ℕ, List, None, map};
-ghost use Rattle.xs_needs.specs.Fresh.{each_once};
+ghost use Rattle.xs_schematic.specs.Once.{each_once};
 ghost use Rattle.xs_scene.specs.Records.{SceneRecord};
 ghost use Rattle.xs_top.specs.declared.status.Status.TheVariants as answers;
 ghost use Rattle.xs_top.specs.Trace.{Event, Ask, asks, puts, lines};

@@ -2,7 +2,7 @@ ghost use Rattle.std.specs.Prelude.{◌≡◌, ◌<◌, ◌≤◌, ◌+◌, ◌^
 ghost use Rattle.std.specs.List.{range_with_len};
 ghost use Rattle.xs_check.specs.Good.{files_of};
 ghost use Rattle.xs_meaning.specs.Expressions.{drawings_of, root_of};
-ghost use Rattle.xs_needs.specs.Fresh.{fresh};
+ghost use Rattle.xs_schematic.specs.Once.{fresh};
 ghost use Rattle.xs_outside.specs.Told.{Rose};
 ghost use Rattle.xs_rawfile.specs.Level.{first_fault, raw_of};
 ghost use Rattle.xs_top.specs.Causes.{IsLost};

@@ -4,6 +4,7 @@ use Rattle.xs_scene.specs.declared.node.Ref.{Ref}
 use Rattle.xs_needs.specs.declared.rule.Rule.{Rule}
 use Rattle.xs_needs.specs.Shown.{Showing}
 use Rattle.xs_needs.specs.Rules.{shown, showing_by, LeadsTo, WaysEnd, input_spot}
+use Rattle.xs_needs.proofs.Remembered.{right-noted, right-found, found-noted}
 use Rattle.xs_needs.proofs.Showings.{shown-rule, composed-none}
 use Rattle.xs_needs.proofs.Ways.{WaysEnd-positive, WaysEnd-step}
 use Rattle.xs_needs.proofs.clear.+clear.Goals as goal
@@ -19,6 +20,11 @@ is_clear-is_clear_by-requires t c =
     in
     (search rules, (c.requires.all_end, (c.in_ok-rule.ensures.there, (positive, (leads, c.requires.known)))))
 
+pub is_clear-returns-in-Some-clause-clear : goal.is_clear-returns-in-Some-clause-clear
+is_clear-returns-in-Some-clause-clear t c =
+    right-found c.args.s.now c.args.known.now.flags.entries c.args.spot c.in-Some.clear c.requires.known
+    (sym c.find.ensures ∙ c.in-Some.is)
+
 pub is_clear-returns-clause-clear : goal.is_clear-returns-clause-clear
 is_clear-returns-clause-clear t c =
     let s = c.args.s.now in
@@ -31,10 +37,13 @@ pub is_clear-returns-clause-known : goal.is_clear-returns-clause-known
 is_clear-returns-clause-known t c =
     let s = c.args.s.now in
     let spot = c.args.spot in
-    c.in_ok-note.ensures s c.in_ok-clear.ensures.known
+    right-noted s _ _ spot _ c.in_ok-note.ensures c.in_ok-clear.ensures.known
     (c.in_ok-clear.ensures.clear
     ∙ ap (λ (r : Rule). is_none (showing_by s (shown s) spot.sheet spot.row r)) c.in_ok-rule.ensures.rule
     ∙ sym (ap is_none (shown-rule s c.requires.all_end spot)))
+
+pub is_clear-returns-clause-noted : goal.is_clear-returns-clause-noted
+is_clear-returns-clause-noted t c = found-noted _ _ c.args.spot _ c.in_ok-note.ensures
 
 pub is_clear_by-returns-in-Over-clause-clear : goal.is_clear_by-returns-in-Over-clause-clear
 is_clear_by-returns-in-Over-clause-clear t c =

@@ -1,4 +1,5 @@
-use Rattle.std.proofs.Common.{◌≡◌, ◌≤◌, ◌<◌, ◌-◌, ◌⊎◌, ⊎_elim, ℕ, suc, length, drop, Bool, List, [], OnOk, cond, ap₂, All, Contains, sym, ap, ◌∙◌, subst, arith, rules}
+use Rattle.std.proofs.Common.{◌≡◌, ◌≤◌, ◌<◌, ◌-◌, ◌⊎◌, ⊎_elim, ℕ, suc, length, drop, Bool, List, [], OnOk, IsTrue, cond, ap₂, All, Contains, sym, ap, ◌∙◌, subst, arith, rules}
+use Rattle.indexmap.specs.IndexSet.{contains}
 use Rattle.xs_needs.specs.declared.rule.Rule.{Rule}
 use Rattle.xs_needs.specs.declared.rule.Rule.TheVariants.{Clear, Pixel}
 use Rattle.xs_scene.specs.declared.node.Ref.TheVariants.{Column as ToColumn}
@@ -7,12 +8,14 @@ use Rattle.xs_meaning.specs.Expressions.{staying}
 use Rattle.xs_scene.specs.declared.node.Ref.{Ref}
 use Rattle.xs_scene.specs.Records.{SceneRecord}
 use Rattle.xs_needs.specs.declared.spot.Spot.{Spot}
-use Rattle.xs_needs.specs.Found.{IsSound}
-use Rattle.xs_needs.specs.Fresh.{gathered}
+use Rattle.xs_needs.specs.Found.{AreWhole, IsSound}
+use Rattle.xs_needs.specs.Spots.{same_spot}
+use Rattle.xs_schematic.specs.Once.{with_each}
 use Rattle.xs_needs.specs.Rules.{shown, showing_by, rule_of, drawings_at, is_clear_at, drawings_over, AreThere, LeadsTo, WaysEnd, input_spot}
 use Rattle.xs_needs.specs.Shown.{Showing, drawings_in, first_stays, second_stays}
-use Rattle.xs_needs.proofs.FreshLemmas.{gathered-nil, gathered-one, gathered-known, gathered-has}
+use Rattle.xs_schematic.proofs.OnceLemmas.{with_each-nil, with_each-one, with_each-known, with_each-has}
 use Rattle.xs_needs.proofs.GatherLemmas.{OnOk-both, gathered-pair, over-start, over-step, sound-note, sound-add}
+use Rattle.xs_needs.proofs.Remembered.{whole-noted, whole-found, listed-noted}
 use Rattle.xs_needs.proofs.Showings.{shown-rule, composed-drawings}
 use Rattle.xs_needs.proofs.Ways.{WaysEnd-positive, WaysEnd-step}
 use Rattle.xs_needs.proofs.gather.+gather.Goals as goal
@@ -20,28 +23,29 @@ use Rattle.xs_needs.proofs.gather.+gather.Goals as goal
 -- what is gathered by the rule of a spot is gathered of the spot
 all_gathered :
     (s : SceneRecord) → AllEnd s.sheets → (spot : Spot) (r : Rule) (old new : List ℕ) → r ≡ rule_of s spot
-    → new ≡ gathered old (drawings_in (showing_by s (shown s) spot.sheet spot.row r))
-    → new ≡ gathered old (drawings_at s spot)
+    → new ≡ with_each old (drawings_in (showing_by s (shown s) spot.sheet spot.row r))
+    → new ≡ with_each old (drawings_at s spot)
 all_gathered s ends spot r old new is gathers =
     gathers
-    ∙ ap (λ (r : Rule). gathered old (drawings_in (showing_by s (shown s) spot.sheet spot.row r))) is
-    ∙ ap (λ sh. gathered old (drawings_in sh)) (sym (shown-rule s ends spot))
+    ∙ ap (λ (r : Rule). with_each old (drawings_in (showing_by s (shown s) spot.sheet spot.row r))) is
+    ∙ ap (λ sh. with_each old (drawings_in sh)) (sym (shown-rule s ends spot))
 
 none_gathered :
     (s : SceneRecord) (old : List ℕ) (k row : ℕ) (r : Rule) → (r ≡ Clear) ⊎ (r ≡ Pixel)
-    → old ≡ gathered old (drawings_in (showing_by s (shown s) k row r))
+    → old ≡ with_each old (drawings_in (showing_by s (shown s) k row r))
 none_gathered s old k row r is =
-    sym (gathered-nil old)
-    ∙ ⊎_elim (λ clear. ap (λ (r : Rule). gathered old (drawings_in (showing_by s (shown s) k row r))) (sym clear))
-    (λ pixel. ap (λ (r : Rule). gathered old (drawings_in (showing_by s (shown s) k row r))) (sym pixel)) is
+    sym (with_each-nil old)
+    ∙ ⊎_elim (λ clear. ap (λ (r : Rule). with_each old (drawings_in (showing_by s (shown s) k row r))) (sym clear))
+    (λ pixel. ap (λ (r : Rule). with_each old (drawings_in (showing_by s (shown s) k row r))) (sym pixel)) is
 
 pub gather-returns-then-has_all_of-clause-drawings : goal.gather-returns-then-has_all_of-clause-drawings
 gather-returns-then-has_all_of-clause-drawings t c =
     let s = c.args.s.now in
     let spot = c.args.spot in
     sym
-    (gathered-known c.args.found.now.gathered.drawings.keys (drawings_at s spot)
-    (c.has_all_of.ensures s c.requires.sound.whole c.if-has_all_of.true))
+    (with_each-known c.args.found.now.gathered.drawings.keys (drawings_at s spot)
+    (whole-found s c.args.found.now.gathered.drawings.keys c.args.found.now.gathered.whole.keys spot c.requires.sound.whole
+    (sym c.has_all_of.ensures ∙ c.if-has_all_of.true)))
 
 pub gather-gather_by-requires : goal.gather-gather_by-requires
 gather-gather_by-requires t c =
@@ -72,11 +76,21 @@ gather-returns-clause-sound t c =
     let all = all_gathered s c.requires.all_end spot c.in_ok-rule.rule old new.gathered.drawings.keys
     c.in_ok-rule.ensures.rule c.in_ok-gather_by.ensures.drawings
     in
-    let has = subst (λ (xs : List ℕ). All (Contains xs) (drawings_at s spot)) (sym all) (gathered-has old (drawings_at s spot)) in
+    let has = subst (λ (xs : List ℕ). All (Contains xs) (drawings_at s spot)) (sym all) (with_each-has old (drawings_at s spot)) in
     OnOk-both c.note.result _ _ (IsSound s (record { known = new.known; gathered = c.note.new.self }))
-    (λ same leads.
+    (λ same is.
     sound-note s new c.note.new.self c.in_ok-gather_by.ensures.sound same
-    (leads s c.in_ok-gather_by.ensures.sound.whole has))
+    (subst (λ (ds : List ℕ). AreWhole s ds c.note.new.self.whole.keys) (sym same)
+    (whole-noted s new.gathered.drawings.keys new.gathered.whole.keys c.note.new.self.whole.keys spot is
+    c.in_ok-gather_by.ensures.sound.whole has)))
+    c.note.ensures.drawings c.note.ensures.whole
+
+pub gather-returns-clause-noted : goal.gather-returns-clause-noted
+gather-returns-clause-noted t c =
+    let spot = c.args.spot in
+    let new = c.gather_by.new.found in
+    OnOk-both c.note.result _ _ (IsTrue (contains same_spot c.note.new.self.whole spot))
+    (λ same is. listed-noted new.gathered.whole.keys c.note.new.self.whole.keys spot is)
     c.note.ensures.drawings c.note.ensures.whole
 
 pub gather_by-returns-in-Drawing-clause-drawings : goal.gather_by-returns-in-Drawing-clause-drawings
@@ -84,8 +98,8 @@ gather_by-returns-in-Drawing-clause-drawings t c =
     let s = c.args.s.now in
     let spot = c.args.spot in
     let old = c.args.found.now.gathered.drawings.keys in
-    let same = sym (gathered-one old c.in-Drawing.drawing)
-    ∙ ap (λ (r : Rule). gathered old (drawings_in (showing_by s (shown s) spot.sheet spot.row r))) (sym c.in-Drawing.is)
+    let same = sym (with_each-one old c.in-Drawing.drawing)
+    ∙ ap (λ (r : Rule). with_each old (drawings_in (showing_by s (shown s) spot.sheet spot.row r))) (sym c.in-Drawing.is)
     in
     subst (λ (xs : List ℕ). OnOk c.add.result (c.add.new.self.drawings.keys ≡ xs)) same c.add.ensures.drawings
 
@@ -103,11 +117,11 @@ gather_by-returns-in-Over-clause-drawings t c =
     let spot = c.args.spot in
     let old = c.args.found.now.gathered.drawings.keys in
     let E : Ref → Showing = λ t. shown s (input_spot spot.sheet t spot.row) in
-    let same : gathered old (drawings_over E c.items.result.now)
-    ≡ gathered old (drawings_in (showing_by s (shown s) spot.sheet spot.row c.args.rule.now)) =
-    ap (λ ts. gathered old (drawings_over E ts)) c.items.ensures
-    ∙ ap (gathered old) (sym (composed-drawings s.levels E c.in-Over.terminals))
-    ∙ ap (λ (r : Rule). gathered old (drawings_in (showing_by s (shown s) spot.sheet spot.row r))) (sym c.in-Over.is)
+    let same : with_each old (drawings_over E c.items.result.now)
+    ≡ with_each old (drawings_in (showing_by s (shown s) spot.sheet spot.row c.args.rule.now)) =
+    ap (λ ts. with_each old (drawings_over E ts)) c.items.ensures
+    ∙ ap (with_each old) (sym (composed-drawings s.levels E c.in-Over.terminals))
+    ∙ ap (λ (r : Rule). with_each old (drawings_in (showing_by s (shown s) spot.sheet spot.row r))) (sym c.in-Over.is)
     in
     subst (λ (xs : List ℕ). OnOk c.gather_over.result (c.gather_over.new.found.gathered.drawings.keys ≡ xs)) same
     c.gather_over.ensures.drawings
@@ -123,8 +137,8 @@ gather_by-returns-in-Clear-2-clause-drawings t c =
 pub gather_if-returns-else-wanted-clause-drawings : goal.gather_if-returns-else-wanted-clause-drawings
 gather_if-returns-else-wanted-clause-drawings t c =
     let old = c.args.found.now.gathered.drawings.keys in
-    sym (gathered-nil old)
-    ∙ ap (λ b. gathered old (cond b (drawings_at c.args.s.now c.args.spot) [])) (sym c.if-wanted.false)
+    sym (with_each-nil old)
+    ∙ ap (λ b. with_each old (cond b (drawings_at c.args.s.now c.args.spot) [])) (sym c.if-wanted.false)
 
 pub gather_over-loop-below-init : goal.gather_over-loop-below-init
 gather_over-loop-below-init t c =
@@ -147,13 +161,13 @@ gather_over-loop-below-preserved t c =
     let next : c.loop-below.below ≡ suc i = omega arith in
     let inside : i < length ts = omega arith in
     let before : c.loop-below.found.gathered.drawings.keys
-    ≡ gathered old (drawings_over E (drop c.loop-below.below ts)) = c.loop-below.invariant.drawings in
+    ≡ with_each old (drawings_over E (drop c.loop-below.below ts)) = c.loop-below.invariant.drawings in
     record {
       inside = omega arith;
       sound = c.in_ok-gather.ensures.sound;
       drawings =
           c.in_ok-gather.ensures.drawings
-          ∙ ap₂ (λ (xs : List ℕ) (p : Spot). gathered xs (drawings_at s p)) before c.input-at.ensures
+          ∙ ap₂ (λ (xs : List ℕ) (p : Spot). with_each xs (drawings_at s p)) before c.input-at.ensures
           ∙ over-step old E ts i c.loop-below.below (ToColumn 0) next inside;
     }
 
@@ -170,10 +184,10 @@ gather_pair-returns-clause-drawings t c =
     c.staying-first_stays.ensures.first ∙ ap₂ (λ (x y : Bool). first_stays (staying c.args.op x y)) first second in
     let second_is : c.staying-first_stays.result.1 ≡ second_stays stays =
     c.staying-first_stays.ensures.second ∙ ap₂ (λ (x y : Bool). second_stays (staying c.args.op x y)) first second in
-    let mid : c.gather_if.new.found.gathered.drawings.keys ≡ gathered old (cond (first_stays stays) (drawings_at s a) []) =
-    c.in_ok-gather_if.ensures.drawings ∙ ap (λ (w : Bool). gathered old (cond w (drawings_at s a) [])) first_is in
+    let mid : c.gather_if.new.found.gathered.drawings.keys ≡ with_each old (cond (first_stays stays) (drawings_at s a) []) =
+    c.in_ok-gather_if.ensures.drawings ∙ ap (λ (w : Bool). with_each old (cond w (drawings_at s a) [])) first_is in
     let all =
-    ap₂ (λ (xs : List ℕ) (w : Bool). gathered xs (cond w (drawings_at s b) [])) mid second_is
+    ap₂ (λ (xs : List ℕ) (w : Bool). with_each xs (cond w (drawings_at s b) [])) mid second_is
     ∙ gathered-pair old stays (shown s a) (shown s b)
     in
     subst (λ (xs : List ℕ). OnOk c.gather_if-2.result (c.gather_if-2.new.found.gathered.drawings.keys ≡ xs)) all

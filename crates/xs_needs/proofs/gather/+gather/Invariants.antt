@@ -1,6 +1,6 @@
 use Rattle.std.proofs.Common.{◌≡◌, ◌≤◌, ◌+◌, ◌*◌, drop, length}
 use Rattle.xs_needs.specs.Found.{IsSound}
-use Rattle.xs_needs.specs.Fresh.{gathered}
+use Rattle.xs_schematic.specs.Once.{with_each}
 use Rattle.xs_needs.specs.Rules.{drawings_over, shown, input_spot}
 use Rattle.xs_needs.proofs.gather.+gather.Given as goal
 
@@ -29,6 +29,6 @@ invariant-gather_over-loop-below l =
       sound : IsSound l.s l.found;
       drawings :
           l.found.gathered.drawings.keys
-          ≡ gathered l.fn.found.gathered.drawings.keys
+          ≡ with_each l.fn.found.gathered.drawings.keys
           (drawings_over (λ t. shown l.s (input_spot l.spot.sheet t l.spot.row)) (drop l.below l.terminals));
     }

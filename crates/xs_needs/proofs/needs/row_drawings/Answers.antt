@@ -1,4 +1,4 @@
-use Rattle.std.proofs.Common.{◌≡◌, ◌≤◌, ◌<◌, ℕ, List, [], Result, Ok, Err, IfOk, All, Contains, length, sym, ap, ◌∙◌, subst, arith}
+use Rattle.std.proofs.Common.{◌≡◌, ◌≤◌, ◌<◌, ℕ, Bool, List, [], Result, Ok, Err, IfOk, All, Contains, length, sym, ap, ◌∙◌, subst, arith}
 use Rattle.xs_scene.specs.Records.{SceneRecord, SheetRecord}
 use Rattle.xs_meaning.specs.Palettes.{none_dropped}
 use Rattle.xs_meaning.specs.Points.{opposite}
@@ -8,10 +8,10 @@ use Rattle.xs_meaning.proofs.Lists.{All-slice_index_or}
 use Rattle.xs_check.specs.Good.{IsGood, files_of}
 use Rattle.xs_needs.specs.declared.spot.At.TheVariants.{Row}
 use Rattle.xs_needs.specs.declared.spot.Spot.{Spot}
-use Rattle.xs_needs.specs.Found.{AreWhole}
-use Rattle.xs_needs.specs.Fresh.{fresh, gathered}
-use Rattle.xs_needs.specs.Rules.{spot, drawings_at}
-use Rattle.xs_needs.proofs.FreshLemmas.{gathered-fresh}
+use Rattle.xs_needs.specs.Found.{AreRight, AreWhole}
+use Rattle.xs_schematic.specs.Once.{fresh, with_each}
+use Rattle.xs_needs.specs.Rules.{spot, drawings_at, is_clear_at}
+use Rattle.xs_schematic.proofs.OnceLemmas.{with_each-fresh}
 use Rattle.xs_needs.proofs.Showings.{drawings-row_expr}
 use Rattle.xs_needs.proofs.Ways.{row-ends}
 use Rattle.xs_needs.proofs.needs.row_drawings.Goals as goal
@@ -21,11 +21,8 @@ few_nodes s good k =
     All-slice_index_or (λ (sheet : SheetRecord). length sheet.nodes ≤ 256) s.sheets k no_sheet (omega arith)
     (λ i d lt. (good.sheets i d lt).few_nodes)
 
-no_drawings : (P : ℕ → Type 0) → All P []
-no_drawings P i d lt = absurd (omega arith)
-
-no_spots : (P : Spot → Type 0) → All P []
-no_spots P i p lt = absurd (omega arith)
+nothing : {A : Type 0} (P : A → Type 0) → All P []
+nothing P i a lt = absurd (omega arith)
 
 IfOk-map :
     {A E : Type 0} (r : Result A E) (P Q : A → Type 0) → ((a : A) → P a → Q a) → IfOk r P → IfOk r Q
@@ -43,13 +40,13 @@ gather-requires c =
       ends = row-ends s good.ends (few_nodes s good) 0 c.args.row;
       sound =
           record {
-            right = c.new.ensures s;
+            right = subst (AreRight s) (sym c.new.ensures) (nothing (λ (e : Spot × Bool). e.1 ≡ is_clear_at s e.0));
             whole =
                 subst (AreWhole s known) (sym c.new-2.ensures.whole)
-                (no_spots (λ p. All (Contains known) (drawings_at s p)));
+                (nothing (λ (p : Spot). All (Contains known) (drawings_at s p)));
             below =
                 subst (All (λ d. d < length (files_of s.levels))) (sym c.new-2.ensures.drawings)
-                (no_drawings (λ d. d < length (files_of s.levels)));
+                (nothing (λ (d : ℕ). d < length (files_of s.levels)));
           };
     }
 
@@ -59,8 +56,8 @@ returns-clause-value c =
     let drawings = drawings_at s (spot 0 Row c.args.row) in
     let all =
     c.in_ok-gather.ensures.drawings
-    ∙ ap (λ (known : List ℕ). gathered known drawings) c.new-2.ensures.drawings
-    ∙ gathered-fresh [] drawings
+    ∙ ap (λ (known : List ℕ). with_each known drawings) c.new-2.ensures.drawings
+    ∙ with_each-fresh [] drawings
     ∙ ap (fresh []) (sym (drawings-row_expr s 0 c.args.row none_dropped (opposite (camera_at s c.args.row))))
     in
     subst (λ (xs : List ℕ). IfOk c.into_drawings.result (λ v. v.items ≡ xs)) all c.into_drawings.ensures

@@ -1,6 +1,5 @@
-use Rattle.std.proofs.Common.{◌≡◌, ◌<◌, ◌≤◌, true, Some, None, leb, ◌&&◌, drop, length, find, sym, ap, ◌∙◌, arith, le-leb}
+use Rattle.std.proofs.Common.{◌≡◌, true, Some, leb, find, sym, ap, ◌∙◌, arith, le-leb}
 use Rattle.std.proofs.lemmas.Bool.{and_from}
-use Rattle.std.proofs.lemmas.List.{get_or_default}
 use Rattle.xs_scene.specs.Records.{ColumnRecord, ExposureRecord}
 use Rattle.xs_meaning.specs.Cells.{covers}
 use Rattle.xs_sheet.proofs.Chosen.{cell_at-found, cell_at-none, find_here, find_past}

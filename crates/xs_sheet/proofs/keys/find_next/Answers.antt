@@ -1,4 +1,4 @@
-use Rattle.std.proofs.Common.{◌≤◌, ◌<◌, length, Some, ap, ◌∙◌, arith}
+use Rattle.std.proofs.Common.{◌<◌, length, Some, ap, ◌∙◌, arith}
 use Rattle.xs_scene.specs.Ranges.{IsPegKey}
 use Rattle.xs_scene.specs.Records.{PegKeyRecord}
 use Rattle.xs_sheet.proofs.Chosen.{after_more, after_same}

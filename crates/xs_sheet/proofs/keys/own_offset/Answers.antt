@@ -1,5 +1,5 @@
-use Rattle.std.proofs.Common.{◌≡◌, List, pos, ap, ◌∙◌, subst}
-use Rattle.xs_scene.specs.Records.{PegRecord, PegKeyRecord}
+use Rattle.std.proofs.Common.{ap, ◌∙◌}
+use Rattle.xs_scene.specs.Records.{PegRecord}
 use Rattle.xs_meaning.specs.Places.{own_offset}
 use Rattle.xs_meaning.specs.Points.{point}
 use Rattle.xs_sheet.proofs.Sums.{own_offset-none, own_offset-some}

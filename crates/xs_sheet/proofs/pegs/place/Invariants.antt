@@ -1,4 +1,4 @@
-use Rattle.std.proofs.Common.{◌≡◌, ◌+◌, ◌-◌, ◌*◌, ℕ}
+use Rattle.std.proofs.Common.{◌≡◌, ◌-◌, ◌*◌}
 use Rattle.xs_meaning.specs.Bounds.{IsWithin}
 use Rattle.xs_meaning.specs.Places.{place_of, place_up}
 use Rattle.xs_meaning.specs.Points.{point, plus}

@@ -1,7 +1,7 @@
 use Rattle.std.proofs.Common.{◌∙◌, ◌+◌, ◌<◌, ◌≤◌, ◌++◌, List, ℕ, length, take, drop, refl, arith}
 use Rattle.std.proofs.lemmas.List.{append-nil}
 use Rattle.std.proofs.lemmas.Result.{err_from_is_err_and}
-use Rattle.xs_needs.specs.Fresh.{fresh}
+use Rattle.xs_schematic.specs.Once.{fresh}
 use Rattle.xs_scene.specs.Records.{SceneRecord}
 use Rattle.xs_top.specs.Trace.{Outcome}
 use Rattle.xs_top.specs.Told.{Files}

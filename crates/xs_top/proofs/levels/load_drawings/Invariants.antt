@@ -1,5 +1,5 @@
 use Rattle.std.proofs.Common.{◌≡◌, ◌≤◌, ℕ, List, ◌++◌, take, drop, Some}
-use Rattle.xs_needs.specs.Fresh.{fresh}
+use Rattle.xs_schematic.specs.Once.{fresh}
 use Rattle.xs_top.specs.Trace.{Outcome, Seen, with_asked}
 use Rattle.xs_top.specs.Runs.{Did}
 use Rattle.xs_top.specs.Told.{Files}

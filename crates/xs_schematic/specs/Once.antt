@@ -7,6 +7,7 @@ fresh known [] = []
 fresh known (d ∷ ds) =
     if is_listed known d then fresh known ds else d ∷ fresh (known ++ d ∷ []) ds
 
+-- the numbers of a list, each at its first place
 abbrev pub each_once : List ℕ → List ℕ
 each_once xs = fresh [] xs
 
@@ -15,6 +16,6 @@ abbrev pub with_one : List ℕ → ℕ → List ℕ
 with_one known d = if is_listed known d then known else known ++ d ∷ []
 
 -- known numbers, and those of a list that are new
-unfoldable pub gathered : List ℕ → List ℕ → List ℕ
-gathered known [] = known
-gathered known (d ∷ ds) = gathered (with_one known d) ds
+unfoldable pub with_each : List ℕ → List ℕ → List ℕ
+with_each known [] = known
+with_each known (d ∷ ds) = with_each (with_one known d) ds

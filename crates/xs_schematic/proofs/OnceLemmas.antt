@@ -1,101 +1,110 @@
--- The numbers of a list that are not among some known ones
-use Rattle.std.proofs.Common.{◌≡◌, ◌≢◌, ℕ, Bool, true, false, cond, eqb, get_or, List, [], ◌∷◌, ◌++◌, All, AllPairs, Contains, refl, sym, ap, ◌∙◌, subst, append_assoc, append-nil, ⊎_elim, arith}
-use Rattle.std.proofs.lemmas.Bool.{eq-eqb}
+-- Numbers that are taken once
+use Rattle.std.proofs.Common.{◌≡◌, ◌≢◌, ℕ, suc, Bool, true, false, ◌||◌, cond, eqb, get_or, List, [], ◌∷◌, ◌++◌, All, AllPairs, Contains, refl, sym, ap, ◌∙◌, subst, append_assoc, append-nil, ⊎_elim, arith}
+use Rattle.std.proofs.lemmas.Bool.{eqb-true, eq-eqb, both_ways}
 use Rattle.std.proofs.lemmas.List.{get_or_default, append_cancel_left}
 use Rattle.std.proofs.lemmas.List.Elements.{All-head, All-tail, All-cons, All-push, Contains-push, Contains-append_left, Contains-append_right, Contains-append_cases, Contains-push_cases}
 use Rattle.std.proofs.lemmas.List.Folds.{list_any_at}
 use Rattle.std.proofs.lemmas.List.Quantifiers.{all_pairs_push}
 use Rattle.xs_meaning.specs.Palettes.{is_listed}
 use Rattle.xs_meaning.proofs.Lists.{by_test}
-use Rattle.xs_schematic.proofs.Standing.{Contains-stands, stands-Contains}
-use Rattle.xs_needs.specs.Fresh.{fresh, each_once, with_one, gathered}
+use Rattle.xs_schematic.specs.Once.{fresh, each_once, with_one, with_each}
+
+contains_first :
+    (x : ℕ) (xs : List ℕ) (d : ℕ) (b : Bool) → eqb x d ≡ b → (b || is_listed xs d) ≡ true
+    → (is_listed xs d ≡ true → Contains xs d) → Contains (x ∷ xs) d
+contains_first x xs d true same listed rest = (0, omega arith, eqb-true x d same)
+contains_first x xs d false same listed rest = let at = rest listed in (suc at.0, omega (arith, at.1), at.2)
+
+pub Contains-listed : (known : List ℕ) (d : ℕ) → is_listed known d ≡ true → Contains known d
+Contains-listed [] d listed = cc
+Contains-listed (x ∷ xs) d listed = contains_first x xs d (eqb x d) refl listed (Contains-listed xs d)
 
 pub listed-Contains : (known : List ℕ) (d : ℕ) → Contains known d → is_listed known d ≡ true
 listed-Contains known d at =
     list_any_at (λ m. eqb m d) known at.0 d at.1 (eq-eqb (get_or known at.0 d) d at.2)
 
-pub Contains-listed : (known : List ℕ) (d : ℕ) → is_listed known d ≡ true → Contains known d
-Contains-listed known d listed = Contains-stands known d listed
+pub unlisted-Contains : (known : List ℕ) (d : ℕ) → is_listed known d ≡ false → Contains known d → ⊥
+unlisted-Contains known d fails at = both_ways (is_listed known d) fails (listed-Contains known d at)
 
-pub gathered-nil : (known : List ℕ) → gathered known [] ≡ known
-unfolding gathered
-gathered-nil known = refl
+pub with_each-nil : (known : List ℕ) → with_each known [] ≡ known
+unfolding with_each
+with_each-nil known = refl
 
-pub gathered-one : (known : List ℕ) (d : ℕ) → gathered known (d ∷ []) ≡ with_one known d
-unfolding gathered
-gathered-one known d = refl
+pub with_each-one : (known : List ℕ) (d : ℕ) → with_each known (d ∷ []) ≡ with_one known d
+unfolding with_each
+with_each-one known d = refl
 
-pub gathered-append : (known xs ys : List ℕ) → gathered known (xs ++ ys) ≡ gathered (gathered known xs) ys
-unfolding gathered
-gathered-append known [] ys = refl
-gathered-append known (x ∷ xs) ys = gathered-append (with_one known x) xs ys
+pub with_each-append : (known xs ys : List ℕ) → with_each known (xs ++ ys) ≡ with_each (with_each known xs) ys
+unfolding with_each
+with_each-append known [] ys = refl
+with_each-append known (x ∷ xs) ys = with_each-append (with_one known x) xs ys
 
-pub gathered-fresh : (known xs : List ℕ) → gathered known xs ≡ known ++ fresh known xs
-unfolding gathered fresh
-gathered-fresh known [] = sym (append-nil known)
-gathered-fresh known (x ∷ xs) =
-    by_cases (is_listed known x) (gathered-fresh known xs)
-    (gathered-fresh (known ++ x ∷ []) xs ∙ append_assoc known (x ∷ []) (fresh (known ++ x ∷ []) xs))
+pub with_each-fresh : (known xs : List ℕ) → with_each known xs ≡ known ++ fresh known xs
+unfolding with_each fresh
+with_each-fresh known [] = sym (append-nil known)
+with_each-fresh known (x ∷ xs) =
+    by_cases (is_listed known x) (with_each-fresh known xs)
+    (with_each-fresh (known ++ x ∷ []) xs ∙ append_assoc known (x ∷ []) (fresh (known ++ x ∷ []) xs))
   where
     by_cases : (b : Bool)
-        → gathered known xs ≡ known ++ fresh known xs
-        → gathered (known ++ x ∷ []) xs ≡ known ++ (x ∷ fresh (known ++ x ∷ []) xs)
-        → gathered (cond b known (known ++ x ∷ [])) xs
+        → with_each known xs ≡ known ++ fresh known xs
+        → with_each (known ++ x ∷ []) xs ≡ known ++ (x ∷ fresh (known ++ x ∷ []) xs)
+        → with_each (cond b known (known ++ x ∷ [])) xs
         ≡ known ++ cond b (fresh known xs) (x ∷ fresh (known ++ x ∷ []) xs)
     by_cases true listed new = listed
     by_cases false listed new = new
 
 -- what is known stays known
-pub gathered-keeps : (known xs : List ℕ) (d : ℕ) → Contains known d → Contains (gathered known xs) d
-unfolding gathered
-gathered-keeps known [] d at = at
-gathered-keeps known (x ∷ xs) d at =
-    gathered-keeps (with_one known x) xs d
+pub with_each-keeps : (known xs : List ℕ) (d : ℕ) → Contains known d → Contains (with_each known xs) d
+unfolding with_each
+with_each-keeps known [] d at = at
+with_each-keeps known (x ∷ xs) d at =
+    with_each-keeps (with_one known x) xs d
     (by_test (λ (l : List ℕ). Contains l d) (is_listed known x) known (known ++ x ∷ [])
     (λ listed. at) (λ new. Contains-append_left known (x ∷ []) d at))
 
-one_known : (known : List ℕ) (d : ℕ) → Contains (with_one known d) d
-one_known known d =
+with_one-has : (known : List ℕ) (d : ℕ) → Contains (with_one known d) d
+with_one-has known d =
     by_test (λ (l : List ℕ). Contains l d) (is_listed known d) known (known ++ d ∷ [])
     (λ listed. Contains-listed known d listed) (λ new. Contains-push known d)
 
 -- and each number of the list is known
-pub gathered-has : (known xs : List ℕ) → All (Contains (gathered known xs)) xs
-unfolding gathered
-gathered-has known [] = λ k d lt. absurd (omega arith)
-gathered-has known (x ∷ xs) =
-    All-cons (Contains (gathered (with_one known x) xs)) x xs
-    (gathered-keeps (with_one known x) xs x (one_known known x))
-    (gathered-has (with_one known x) xs)
+pub with_each-has : (known xs : List ℕ) → All (Contains (with_each known xs)) xs
+unfolding with_each
+with_each-has known [] = λ k d lt. absurd (omega arith)
+with_each-has known (x ∷ xs) =
+    All-cons (Contains (with_each (with_one known x) xs)) x xs
+    (with_each-keeps (with_one known x) xs x (with_one-has known x))
+    (with_each-has (with_one known x) xs)
 
-pub gathered-known : (known xs : List ℕ) → All (Contains known) xs → gathered known xs ≡ known
-unfolding gathered
-gathered-known known [] all = refl
-gathered-known known (x ∷ xs) all =
-    ap (λ b. gathered (cond b known (known ++ x ∷ [])) xs) (listed-Contains known x (All-head (Contains known) x xs all))
-    ∙ gathered-known known xs (All-tail (Contains known) x xs all)
+pub with_each-known : (known xs : List ℕ) → All (Contains known) xs → with_each known xs ≡ known
+unfolding with_each
+with_each-known known [] all = refl
+with_each-known known (x ∷ xs) all =
+    ap (λ b. with_each (cond b known (known ++ x ∷ [])) xs) (listed-Contains known x (All-head (Contains known) x xs all))
+    ∙ with_each-known known xs (All-tail (Contains known) x xs all)
 
 -- what holds of the known numbers and of the list's holds of all
-pub gathered-All : (P : ℕ → Type 0) (known xs : List ℕ) → All P known → All P xs → All P (gathered known xs)
-unfolding gathered
-gathered-All P known [] all more = all
-gathered-All P known (x ∷ xs) all more =
-    gathered-All P (with_one known x) xs
+pub with_each-All : (P : ℕ → Type 0) (known xs : List ℕ) → All P known → All P xs → All P (with_each known xs)
+unfolding with_each
+with_each-All P known [] all more = all
+with_each-All P known (x ∷ xs) all more =
+    with_each-All P (with_one known x) xs
     (by_test (All P) (is_listed known x) known (known ++ x ∷ [])
     (λ listed. all) (λ new. All-push P known x all (All-head P x xs more)))
     (All-tail P x xs more)
 
 -- no number stands twice
-gathered-once :
-    (known xs : List ℕ) → AllPairs (λ a b. a ≢ b) known → AllPairs (λ a b. a ≢ b) (gathered known xs)
-unfolding gathered
-gathered-once known [] once = once
-gathered-once known (x ∷ xs) once =
-    gathered-once (with_one known x) xs
+with_each-once :
+    (known xs : List ℕ) → AllPairs (λ a b. a ≢ b) known → AllPairs (λ a b. a ≢ b) (with_each known xs)
+unfolding with_each
+with_each-once known [] once = once
+with_each-once known (x ∷ xs) once =
+    with_each-once (with_one known x) xs
     (by_test (AllPairs (λ a b. a ≢ b)) (is_listed known x) known (known ++ x ∷ [])
     (λ listed. once)
     (λ new. all_pairs_push (λ a b. a ≢ b) known x once
-    (λ k d lt same. stands-Contains known x new (k, lt, get_or_default known k x d lt ∙ same))))
+    (λ k d lt same. unlisted-Contains known x new (k, lt, get_or_default known k x d lt ∙ same))))
 
 -- ---- the laws
 
@@ -103,19 +112,19 @@ pub fresh-append :
     (known xs ys : List ℕ) → fresh known (xs ++ ys) ≡ fresh known xs ++ fresh (known ++ fresh known xs) ys
 fresh-append known xs ys =
     append_cancel_left known (fresh known (xs ++ ys)) (fresh known xs ++ fresh (known ++ fresh known xs) ys)
-    (sym (gathered-fresh known (xs ++ ys)) ∙ gathered-append known xs ys
-    ∙ ap (λ l. gathered l ys) (gathered-fresh known xs)
-    ∙ gathered-fresh (known ++ fresh known xs) ys
+    (sym (with_each-fresh known (xs ++ ys)) ∙ with_each-append known xs ys
+    ∙ ap (λ l. with_each l ys) (with_each-fresh known xs)
+    ∙ with_each-fresh (known ++ fresh known xs) ys
     ∙ append_assoc known (fresh known xs) (fresh (known ++ fresh known xs) ys))
 
 pub fresh-known : (known xs : List ℕ) → All (Contains known) xs → fresh known xs ≡ []
 fresh-known known xs all =
     append_cancel_left known (fresh known xs) []
-    (sym (gathered-fresh known xs) ∙ gathered-known known xs all ∙ sym (append-nil known))
+    (sym (with_each-fresh known xs) ∙ with_each-known known xs all ∙ sym (append-nil known))
 
 pub fresh-has : (known xs : List ℕ) → All (Contains (known ++ fresh known xs)) xs
 fresh-has known xs =
-    subst (λ (l : List ℕ). All (Contains l) xs) (gathered-fresh known xs) (gathered-has known xs)
+    subst (λ (l : List ℕ). All (Contains l) xs) (with_each-fresh known xs) (with_each-has known xs)
 
 pub Contains-fresh : (known xs : List ℕ) (d : ℕ) → Contains (fresh known xs) d → Contains xs d
 unfolding fresh
@@ -175,5 +184,5 @@ fresh-each_once known xs = fresh-fresh known [] xs (λ d listed. cc)
 
 pub each_once-once : (xs : List ℕ) → AllPairs (λ a b. a ≢ b) (each_once xs)
 each_once-once xs =
-    subst (AllPairs (λ a b. a ≢ b)) (gathered-fresh [] xs)
-    (gathered-once [] xs (λ i j d lt long. absurd (omega arith)))
+    subst (AllPairs (λ a b. a ≢ b)) (with_each-fresh [] xs)
+    (with_each-once [] xs (λ i j d lt long. absurd (omega arith)))

@@ -1,5 +1,5 @@
-use Rattle.xs_needs.proofs.FreshLemmas.{fresh-append, fresh-each_once, fresh-known, Contains-fresh, fresh-has, each_once-once}
-use Rattle.xs_needs.proofs.laws.each_number_is_taken_once.Goals as goal
+use Rattle.xs_schematic.proofs.OnceLemmas.{fresh-append, fresh-each_once, fresh-known, Contains-fresh, fresh-has, each_once-once}
+use Rattle.xs_schematic.proofs.laws.each_number_is_taken_once.Goals as goal
 
 pub returns : goal.returns
 returns c =

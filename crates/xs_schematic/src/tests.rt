@@ -1,0 +1,54 @@
+//! The order of nodes that share inputs and stand in no order themselves.
+
+ghost use Rattle.std.specs.Prelude.{IfOk};
+ghost use Rattle.xs_schematic.specs.Order.{IsOrderable};
+
+use crate::order;
+use std::alloc::Global;
+use std::test::Fail;
+use xs_pixel::{List, Op, Style};
+use xs_scene::{Node, Ref, Sheet};
+
+/// Node 0 is made from 3 and 1, both of these from 4, and 2 from 0.
+fn sheet(alloc: Global) -> Result<Sheet, Fail>
+    ensures { IfOk result IsOrderable }
+{
+    let over = Node::Pair {
+        op: Op::Over,
+        first: Ref::Node(3),
+        second: Ref::Node(1),
+    };
+    let add = Node::Pair {
+        op: Op::Add,
+        first: Ref::Node(4),
+        second: Ref::Node(4),
+    };
+    let blur = Node::Blur {
+        input: Ref::Node(0),
+        radius: 1,
+    };
+    let small = Node::Blur {
+        input: Ref::Node(4),
+        radius: 2,
+    };
+    let card = Node::Card(Style {
+        r: 0,
+        g: 0,
+        b: 0,
+        a: 255,
+    });
+    let nodes = vec![in alloc; over, add, blur, small, card]?;
+    let none = List::of(Vec::new(alloc));
+    let sheet = Sheet::new(none, List::of(Vec::new(alloc)), List::of(nodes), None);
+    Ok(sheet.ok_or("a sheet")?)
+}
+
+#[test]
+fn each_node_comes_once_after_its_inputs_where_it_is_first_met(
+    rt: HostRuntime,
+) -> Result<(), Fail> {
+    let sheet = sheet(rt.alloc())?;
+    let order = order(rt.alloc(), &sheet)?;
+    assert_eq!(rt; order.as_slice(), [4, 3, 1, 0, 2].as_slice());
+    Ok(())
+}
