@@ -15,9 +15,12 @@
 //! - `run WORDS`: what the words do: the status and its text, the names that were asked for, the files on
 //!   the shelf and the notes
 //! - `fail get N WORDS`, `fail put N WORDS`, `fail note N WORDS`: the same, where that call fails
+//! - `fail every get WORDS`, `fail every put WORDS`, `fail every note WORDS`: how many calls of this kind the
+//!   words make, and what is left where each in turn fails, on a line each
 //! - `quiet WORDS`: the same, over a library that tells nothing
 #![tactic(auto)]
 
+mod faults;
 mod frame;
 mod hexadecimal;
 mod level;

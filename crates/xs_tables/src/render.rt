@@ -1,5 +1,6 @@
 //! The top call over an outside in memory.
 
+use crate::faults::each_fault_text;
 use crate::frame::push_frame;
 use crate::outside::{Failing, Outside};
 use std::alloc::Global;
@@ -21,8 +22,37 @@ fn push_bytes(text: &mut String, bytes: &[u8]) -> io::Result<()> {
     Ok(text.push_str(str::from_utf8(bytes).unwrap_or("(not UTF-8)"))?)
 }
 
+/// What a run answers, and what it leaves.
+#[derive(Debug, Drop)]
+pub struct Ended {
+    pub status: Status,
+    pub library: MemLibrary,
+    pub shelf: MemShelf,
+    pub notes: MemNotes,
+}
+
+/// What the words leave over these files, where these calls fail.
+pub fn run_over(
+    alloc: Global,
+    outside: &Outside,
+    failing: Failing,
+    words: &str,
+) -> io::Result<Ended> {
+    let words = words_of(alloc, words)?;
+    let mut library = outside.library(alloc, failing.get)?;
+    let mut shelf = shelf(alloc, failing)?;
+    let mut notes = notes(alloc, failing)?;
+    let status = run(alloc, &words, &mut library, &mut shelf, &mut notes);
+    Ok(Ended {
+        status,
+        library,
+        shelf,
+        notes,
+    })
+}
+
 /// The number of a status and its text.
-fn status_text(alloc: Global, status: &Status) -> io::Result<String> {
+pub fn status_text(alloc: Global, status: &Status) -> io::Result<String> {
     let mut text = status_number(status).to_string(alloc)?;
     let Ok(fault) = fault_text(alloc, status) else {
         return Err(io::Error::from(io::ErrorKind::OutOfMemory));
@@ -34,17 +64,20 @@ fn status_text(alloc: Global, status: &Status) -> io::Result<String> {
     Ok(text)
 }
 
-/// The names that were asked for, if any.
-fn push_asked(text: &mut String, library: &MemLibrary) -> io::Result<()> {
-    if library.asked().is_empty() {
-        return Ok(());
-    }
-    text.push_str("\n  asked")?;
+/// The names that were asked for.
+pub fn push_asked(text: &mut String, library: &MemLibrary) -> io::Result<()> {
+    text.push_str("asked")?;
     for name in library.asked() {
         text.push(' ')?;
         push_bytes(text, name.items())?;
     }
     Ok(())
+}
+
+/// What was noted, without the end of its line.
+pub fn push_noted(text: &mut String, notes: &MemNotes) -> io::Result<()> {
+    text.push_str("noted ")?;
+    push_bytes(text, notes.bytes().trim_ascii_end())
 }
 
 /// The frames on the shelf, and what was noted, if anything.
@@ -60,8 +93,8 @@ fn push_made(
         push_frame(text, alloc, object.bytes.items())?;
     }
     if !notes.bytes().is_empty() {
-        text.push_str("\n  noted ")?;
-        push_bytes(text, notes.bytes().trim_ascii_end())?;
+        text.push_str("\n  ")?;
+        push_noted(text, notes)?;
     }
     Ok(())
 }
@@ -76,14 +109,13 @@ fn notes(alloc: Global, failing: Failing) -> io::Result<MemNotes> {
 
 /// What the words do over these files, where these calls fail.
 fn run_text(alloc: Global, outside: &Outside, failing: Failing, words: &str) -> io::Result<String> {
-    let words = words_of(alloc, words)?;
-    let mut library = outside.library(alloc, failing.get)?;
-    let mut shelf = shelf(alloc, failing)?;
-    let mut notes = notes(alloc, failing)?;
-    let status = run(alloc, &words, &mut library, &mut shelf, &mut notes);
-    let mut text = status_text(alloc, &status)?;
-    push_asked(&mut text, &library)?;
-    push_made(&mut text, alloc, &shelf, &notes)?;
+    let ended = run_over(alloc, outside, failing, words)?;
+    let mut text = status_text(alloc, &ended.status)?;
+    if !ended.library.asked().is_empty() {
+        text.push_str("\n  ")?;
+        push_asked(&mut text, &ended.library)?;
+    }
+    push_made(&mut text, alloc, &ended.shelf, &ended.notes)?;
     Ok(text)
 }
 
@@ -101,10 +133,14 @@ fn quiet_text(alloc: Global, outside: &Outside, words: &str) -> io::Result<Strin
     Ok(text)
 }
 
-/// What the words do where one call fails: the kind of the call and its number come before them.
+/// What the words do where one call fails, or each in turn: the kind of the call and its number, or `every`
+/// and the kind, come before them.
 fn failing_text(alloc: Global, outside: &Outside, words: &str) -> io::Result<String> {
     let (kind, words) = words.split_once(' ').unwrap_or((words, ""));
     let (number, words) = words.split_once(' ').unwrap_or((words, ""));
+    if kind == "every" {
+        return each_fault_text(alloc, outside, number, words);
+    }
     match number.parse::<u64>() {
         Ok(number) => run_text(alloc, outside, Failing::at(kind, number), words),
         Err(_) => Ok(String::from_str(alloc, "no number")?),
