@@ -1,5 +1,5 @@
 -- Laws of a row of bytes seen as words. A place or a count of bytes is four times one of words.
-use Rattle.std.proofs.Common.{◌≡◌, ℕ, ◌+◌, ◌-◌, ◌*◌, zero, suc, List, [], ◌∷◌, ◌++◌, length, take, drop, refl, ap, ◌∙◌, arith}
+use Rattle.std.proofs.Common.{◌≡◌, ℕ, ◌-◌, ◌*◌, zero, suc, List, [], ◌∷◌, ◌++◌, length, take, drop, refl, ap, ◌∙◌, arith}
 use Rattle.std.specs.Simd.Lanes.{chunk, number_l}
 use Rattle.xs_cm32.specs.Rows.{words}
 

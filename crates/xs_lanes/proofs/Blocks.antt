@@ -4,9 +4,9 @@ use Rattle.std.specs.Simd.Lanes.{Each1, zip2}
 use Rattle.xs_pixel.specs.Channels.{channels, IsPixel}
 use Rattle.xs_pixel.specs.Rows.{pixels}
 use Rattle.xs_pixel.specs.Operations.{product, by_channel, faded_of, over_of, sub_of, matte_in_of, matte_out_of}
+use Rattle.xs_pixel.proofs.Products.{product-opaque, product-zero_right}
 use Rattle.xs_pixel.proofs.StaysPixel.{IsPixel-over_of}
 use Rattle.xs_lanes.specs.Mattes.{mattes_of, colour_lanes}
-use Rattle.xs_lanes.proofs.Products.{product-255, product-0}
 
 -- an operation that makes each channel from that channel alone
 pub pixels-zip2 : (f : ℕ → ℕ → ℕ) (n : ℕ) (u d : List ℕ) → length u ≡ 4 * n → pixels (zip2 f u d) ≡ zip2 (by_channel (λ c m e k. f c e)) (pixels u) (pixels d)
@@ -87,11 +87,11 @@ over_block n (r ∷ g ∷ b ∷ m ∷ u) (x ∷ y ∷ z ∷ w ∷ d) whole upper
 
 -- a channel under a clear pixel
 through_clear : (c m e : ℕ) → c ≤ m → m ≡ 0 → c + product e (255 - m) ≡ e
-through_clear c m e within none = let all : 255 - m ≡ 255 = omega arith in rw (all, product-255 e) (omega arith)
+through_clear c m e within none = let all : 255 - m ≡ 255 = omega arith in rw (all, product-opaque e) (omega arith)
 
 -- a channel of an opaque pixel
 of_opaque : (c m e : ℕ) → m ≡ 255 → c + product e (255 - m) ≡ c
-of_opaque c m e full = let none : 255 - m ≡ 0 = omega arith in rw (none, product-0 e) (omega arith)
+of_opaque c m e full = let none : 255 - m ≡ 0 = omega arith in rw (none, product-zero_right e) (omega arith)
 
 pub over_clear : (n : ℕ) (u d : List ℕ) → length u ≡ 4 * n → length d ≡ 4 * n → Each1 IsPixel (pixels u) → Each1 (λ a. a ≡ 0) (mattes_of u) → pixels d ≡ zip2 over_of (pixels u) (pixels d)
 over_clear n [] [] first second valid none = refl

@@ -41,11 +41,3 @@ products_fit xs ys long left right =
     Each1-zip2 product (Fits w8) xs ys (Each2-of (Fits w8) (Fits w8) (λ x y. Fits w8 (product x y)) small xs ys left right)
     in
     subst (λ (zs : List ℕ). Each1 (Fits w8) zs) (sym (products_are xs ys long left right)) all
-
-pub product-255 : (x : ℕ) → product x 255 ≡ x
-unfolding product
-product-255 x = omega arith
-
-pub product-0 : (x : ℕ) → product x 0 ≡ 0
-unfolding product
-product-0 x = omega arith

@@ -1,6 +1,5 @@
 -- Laws of bytes as pixels and back.
-use Rattle.std.proofs.Common.{◌≡◌, ℕ, zero, suc, ◌+◌, ◌-◌, ◌*◌, List, [], ◌∷◌, length, replicate, refl, ap, arith}
-use Rattle.std.specs.Simd.Lanes.{Each1}
+use Rattle.std.proofs.Common.{◌≡◌, ℕ, zero, suc, ◌-◌, ◌*◌, List, [], ◌∷◌, length, replicate, refl, ap, arith}
 use Rattle.xs_pixel.specs.Channels.{Channels, IsPixel, clear}
 use Rattle.xs_pixel.specs.Rows.{pixels}
 use Rattle.xs_raster.specs.Bitmap.{bytes_of}

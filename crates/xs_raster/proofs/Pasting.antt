@@ -1,13 +1,13 @@
 -- Pasting row by row: what has been pasted so far is a part of the common area.
-use Rattle.std.proofs.Common.{◌≡◌, ℕ, ◌+◌, ◌*◌, ◌<◌, ℤ, pos, ◌+ℤ◌, ◌-ℤ◌, ◌≤ℤ◌, unsigned_abs, List, length, slice_index_or, refl, sym, ap, ◌∙◌, inl, inr, subst, arith}
+use Rattle.std.proofs.Common.{◌≡◌, ℕ, ◌+◌, ◌<◌, ℤ, pos, ◌+ℤ◌, ◌≤ℤ◌, length, slice_index_or, refl, sym, ap, ◌∙◌, inl, inr, subst, arith}
 use Rattle.std.specs.Simd.Lanes.{chunk}
 use Rattle.std.proofs.lemmas.Bool.{cases_lt}
 use Rattle.std.proofs.lemmas.Int.{ints}
 use Rattle.std.proofs.lemmas.Simd.{get_or-chunk}
-use Rattle.xs_pixel.specs.Channels.{Channels, clear}
+use Rattle.xs_pixel.specs.Channels.{clear}
 use Rattle.xs_pixel.specs.Picture.{place_in_box}
 use Rattle.xs_rect.specs.Area.{Area, area, Holds, IsCommonPart, IsWithin, Lies, ShareNoPoint}
-use Rattle.xs_raster.specs.Bitmap.{Bitmap, bitmap, place_of, pixel_of, part_of}
+use Rattle.xs_raster.specs.Bitmap.{Bitmap, place_of, pixel_of, part_of}
 use Rattle.xs_raster.specs.Changes.{SetsRow, Pastes}
 use Rattle.xs_raster.proofs.Points.{off, off_below}
 

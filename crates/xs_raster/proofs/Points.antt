@@ -1,5 +1,5 @@
 -- What putting a row or pasting a tile does to the pixels at points.
-use Rattle.std.proofs.Common.{◌≡◌, ℕ, ◌+◌, ◌-◌, ◌*◌, ◌<◌, ◌≤◌, ◌^◌, ℤ, pos, negsuc, neg_ℤ, w32, FitsSigned, ◌+ℤ◌, ◌-ℤ◌, ◌≤ℤ◌, ◌<ℤ◌, unsigned_abs, List, length, get_or, slice_index_or, refl, sym, ap, ◌∙◌, ◌⊎◌, inl, inr, arith}
+use Rattle.std.proofs.Common.{◌≡◌, ℕ, ◌+◌, ◌-◌, ◌*◌, ◌<◌, ◌≤◌, ℤ, ◌-ℤ◌, unsigned_abs, List, length, slice_index_or, refl, inl, inr, arith}
 use Rattle.std.specs.Simd.Lanes.{put_chunk}
 use Rattle.std.proofs.lemmas.Bool.{cases_lt}
 use Rattle.std.proofs.lemmas.Int.{ints}
@@ -10,11 +10,6 @@ use Rattle.xs_rect.specs.Area.{Area, area, Holds, IsPart, Lies}
 use Rattle.xs_raster.specs.Bitmap.{Bitmap, bitmap, place_of, pixel_of}
 use Rattle.xs_raster.specs.Changes.{SetsRow}
 use Rattle.xs_raster.proofs.Places.{fits_in_rows, put_found, put_below, put_left, put_right, put_above}
-
--- a place near the origin fits an `i32`
-pub fits_i32 : (z : ℤ) → neg_ℤ (pos (2 ^ 28)) ≤ℤ z → z ≤ℤ pos (2 ^ 28) → FitsSigned w32 z
-fits_i32 (pos n) low high = record { sfits = omega (arith, ints) }
-fits_i32 (negsuc n) low high = record { sfits = omega (arith, ints) }
 
 -- how far a place lies from the first one
 abbrev pub off : ℤ → ℤ → ℕ

@@ -1,6 +1,6 @@
-use Rattle.std.specs.Prelude.{◌≡◌, ℕ, ℤ, ◌-ℤ◌, unsigned_abs, List, length, slice_index_or}
+use Rattle.std.specs.Prelude.{◌≡◌, ℤ, ◌-ℤ◌, unsigned_abs, List, length, slice_index_or}
 use Rattle.xs_pixel.specs.Channels.{Channels, clear}
-use Rattle.xs_rect.specs.Area.{Area, area, Holds, Lies}
+use Rattle.xs_rect.specs.Area.{area, Holds, Lies}
 use Rattle.xs_raster.specs.Bitmap.{Bitmap, pixel_of}
 
 -- the points from (x, y) to the right have the pixels of the row, and all others are as they were

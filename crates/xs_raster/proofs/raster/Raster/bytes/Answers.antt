@@ -1,4 +1,4 @@
-use Rattle.std.proofs.Common.{sym, ◌∙◌, ap, ◌*◌, ℕ, arith}
+use Rattle.std.proofs.Common.{sym, ◌∙◌, ap, ◌*◌, ℕ}
 use Rattle.xs_pixel.proofs.Rows.{length-pixels}
 use Rattle.xs_raster.proofs.Bytes.{bytes_of-pixels}
 use Rattle.xs_raster.proofs.raster.Raster.bytes.Goals as goal

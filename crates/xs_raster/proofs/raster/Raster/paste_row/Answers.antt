@@ -1,4 +1,4 @@
-use Rattle.std.proofs.Common.{◌≡◌, ◌/◌, ◌*◌, length, ap, sym, ◌∙◌, w32, arith}
+use Rattle.std.proofs.Common.{◌≡◌, ◌∙◌, w32, arith}
 use Rattle.std.proofs.lemmas.Int.{ints, to_z-of_z}
 use Rattle.xs_pixel.specs.Rows.{pixels}
 use Rattle.xs_pixel.proofs.Rows.{length-pixels}

@@ -1,8 +1,7 @@
-use Rattle.std.proofs.Common.{ap, w32, ◌-ℤ◌, arith, refl}
+use Rattle.std.proofs.Common.{w32, arith}
 use Rattle.std.proofs.lemmas.Int.{ints, to_z-of_z}
 use Rattle.xs_pixel.specs.Picture.{place_in_box}
 use Rattle.xs_rect.proofs.Areas.{unwrapped}
-use Rattle.xs_raster.specs.Bitmap.{Bitmap}
 use Rattle.xs_raster.proofs.Points.{place_fits}
 use Rattle.xs_raster.proofs.raster.Raster.place.Goals as goal
 

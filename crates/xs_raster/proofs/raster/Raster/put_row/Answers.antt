@@ -1,11 +1,11 @@
-use Rattle.std.proofs.Common.{◌≡◌, ℕ, ◌+◌, ◌*◌, ◌/◌, List, length, take, drop, ◌++◌, ap, sym, ◌∙◌, w32, arith, refl}
+use Rattle.std.proofs.Common.{◌≡◌, ℕ, ◌/◌, List, length, take, drop, ◌++◌, ap, sym, ◌∙◌, w32, arith, refl}
 use Rattle.std.proofs.lemmas.Int.{to_z-of_z}
 use Rattle.std.proofs.lemmas.List.{take_at}
 use Rattle.std.proofs.lemmas.Simd.{Each1-put_chunk}
 use Rattle.xs_pixel.specs.Channels.{IsPixel}
 use Rattle.xs_pixel.specs.Rows.{pixels}
 use Rattle.xs_pixel.proofs.Rows.{length-pixels}
-use Rattle.xs_raster.specs.Bitmap.{Bitmap, bitmap}
+use Rattle.xs_raster.specs.Bitmap.{bitmap}
 use Rattle.xs_raster.proofs.Points.{place_fits, sets_row}
 use Rattle.xs_raster.proofs.raster.Raster.put_row.Goals as goal
 

@@ -1,4 +1,3 @@
-use Rattle.std.proofs.Common.{arith}
 use Rattle.xs_pixel.proofs.Rows.{length-pixels}
 use Rattle.xs_raster.proofs.raster.Raster.rect.Goals as goal
 
