@@ -20,3 +20,6 @@ pub mod SamePixels
 pub mod UnusedStyles
 pub mod ChosenCells
 pub mod OwnDrawings
+pub mod StyleKeys
+pub mod DroppedStyles
+pub mod FrameOrder

@@ -36,7 +36,7 @@ drawing_pixel-agree (Some q) g h p agree =
     (map-agree (colour_under g) (colour_under h) (words_in q.content)
     (λ k w lt. ap₂ (colour_of _) (agree k w lt).0 (agree k w lt).1))
 
-style_at-dropped : (c : ColoursRecord) (row : ℕ) (f g : Dropped) (style : ℕ) → f style ≡ g style → style_at c row f style ≡ style_at c row g style
+pub style_at-dropped : (c : ColoursRecord) (row : ℕ) (f g : Dropped) (style : ℕ) → f style ≡ g style → style_at c row f style ≡ style_at c row g style
 unfolding style_at
 style_at-dropped c row f g style same =
     ap

@@ -1,5 +1,5 @@
 use Rattle.std.specs.Prelude.{◌≡◌, ℕ, ◌≤◌, ◌<◌, true, List, All, Contains}
-use Rattle.xs_scene.specs.Records.{ColumnRecord, ExposureRecord, PegKeyRecord}
+use Rattle.xs_scene.specs.Records.{ColumnRecord, ExposureRecord, PegKeyRecord, StyleKeyRecord}
 use Rattle.xs_meaning.specs.Cells.{covers}
 
 -- an exposure is the only one of a column whose rows contain a row
@@ -24,3 +24,10 @@ pub record IsKeyAfter (keys : List PegKeyRecord) (row : ℕ) (b : PegKeyRecord) 
 abbrev pub HasDistinctRows : List PegKeyRecord → Type 0
 HasDistinctRows keys =
     (k other : PegKeyRecord) → Contains keys k → Contains keys other → k.row ≡ other.row → k ≡ other
+
+-- a is the last of the keys of a style at or before a row
+pub record IsStyleKeyInForce (keys : List StyleKeyRecord) (row style : ℕ) (a : StyleKeyRecord) : Type 0 where
+  pub among : Contains keys a
+  pub of_style : a.style ≡ style
+  pub begun : a.row ≤ row
+  pub last : All (λ k. k.style ≡ style → k.row ≤ row → k.row ≤ a.row) keys

@@ -1,14 +1,42 @@
 //! Laws of palettes, palette keys and palette filters.
 
-ghost use Rattle.std.specs.Prelude.{◌≡◌, ◌↔◌, ℕ, List};
+ghost use Rattle.std.specs.Prelude.{◌≡◌, ◌≤◌, ◌<◌, ℕ, true, false, Some, None, List, All, MatchOption, length};
+ghost use Rattle.xs_pixel.specs.Channels.{clear};
 ghost use Rattle.xs_meaning.specs.Agreement.{AgreeOnWords, UsesNoneOf, UsesOnly, DropsAlike, PalettesAlike};
+ghost use Rattle.xs_meaning.specs.Chosen.{IsStyleKeyInForce};
 ghost use Rattle.xs_meaning.specs.Drawings.{Pictures};
 ghost use Rattle.xs_meaning.specs.Expressions.{row_expr, input_expr};
-ghost use Rattle.xs_meaning.specs.Palettes.{Dropped, deleting, keeping, style_at, tint_at, tint_style};
+ghost use Rattle.xs_meaning.specs.Palettes.{Dropped, deleting, keeping, is_listed, pixel_of, as_written, key_at, style_at, tint_at, tint_style};
 ghost use Rattle.xs_meaning.specs.Points.{Point};
 ghost use Rattle.xs_meaning.specs.Rows.{row_under, value_under};
-ghost use Rattle.xs_scene.specs.Records.{SceneRecord, ColoursRecord};
+ghost use Rattle.xs_scene.specs.Records.{SceneRecord, ColoursRecord, StyleKeyRecord};
 ghost use Rattle.xs_scene.specs.declared.node.Ref.{Ref};
+
+/// A style has at a row the colour of the last of its keys at or before the row. Without such a key all its
+/// keys come later, and it is as written.
+pub fn palette_keys_are_chosen_by_row()
+    ensures in_force { (c : ColoursRecord) (row style : ℕ)
+        → MatchOption (key_at c row style) (All (λ k. k.style ≡ style → row < k.row) c.keys)
+        (IsStyleKeyInForce c.keys row style) }
+    ensures sets { (c : ColoursRecord) (row style : ℕ) (f : Dropped) (key : StyleKeyRecord)
+        → key_at c row style ≡ Some key → 1 ≤ style → style < length c.styles → f style ≡ false
+        → style_at c row f style ≡ pixel_of key.to }
+    ensures without_key { (c : ColoursRecord) (row style : ℕ) (f : Dropped) → key_at c row style ≡ None
+        → f style ≡ false → style_at c row f style ≡ as_written c style }
+{}
+
+/// Delete makes the listed styles clear and leaves every other as it was. Keep leaves the listed styles as
+/// they were and makes every other below 4096 clear: no word has a greater one.
+pub fn filters_drop_styles()
+    ensures deleted { (c : ColoursRecord) (row style : ℕ) (styles : List ℕ) (f : Dropped)
+        → is_listed styles style ≡ true → style_at c row (deleting styles f) style ≡ clear }
+    ensures not_deleted { (c : ColoursRecord) (row style : ℕ) (styles : List ℕ) (f : Dropped)
+        → is_listed styles style ≡ false → style_at c row (deleting styles f) style ≡ style_at c row f style }
+    ensures kept { (c : ColoursRecord) (row style : ℕ) (styles : List ℕ) (f : Dropped)
+        → is_listed styles style ≡ true → style_at c row (keeping styles f) style ≡ style_at c row f style }
+    ensures not_kept { (c : ColoursRecord) (row style : ℕ) (styles : List ℕ) (f : Dropped)
+        → style < 4096 → is_listed styles style ≡ false → style_at c row (keeping styles f) style ≡ clear }
+{}
 
 /// A tint gives each style its pixel, and palettes that give every style the same pixel have one tint.
 pub fn tint_is_canonical()

@@ -1,6 +1,7 @@
 //! Laws of values, rows and places: the rules as they are told, without a bound of depth.
 
-ghost use Rattle.std.specs.Prelude.{◌≡◌, ℕ, false, ◌+◌, ◌-◌, ◌<◌, ◌≤◌, Option, Some, List, length, All, MatchOption};
+ghost use Rattle.std.specs.Prelude.{◌≡◌, ℕ, false, ◌+◌, ◌-◌, ◌*◌, ◌<◌, ◌≤◌, pos, Option, Some, List, length, slice_index_or, All, MatchOption};
+ghost use Rattle.xs_pixel.specs.Channels.{Channels};
 ghost use Rattle.xs_meaning.specs.Cells.{cell_at, covers, shown_after};
 ghost use Rattle.xs_meaning.specs.Chosen.{IsOnlyAt, IsKeyInForce, IsKeyAfter, HasDistinctRows};
 ghost use Rattle.xs_meaning.specs.Drawings.{Pictures};
@@ -8,8 +9,8 @@ ghost use Rattle.xs_meaning.specs.Ends.{AllEnd};
 ghost use Rattle.xs_meaning.specs.Expressions.{by_offsets, row_expr, root_of};
 ghost use Rattle.xs_meaning.specs.Palettes.{Dropped};
 ghost use Rattle.xs_meaning.specs.Places.{own_offset, peg_at, place_of, key_in_force, key_after};
-ghost use Rattle.xs_meaning.specs.Points.{Point, plus};
-ghost use Rattle.xs_meaning.specs.Rows.{by_points, row_of, row_under, value_under, camera_at};
+ghost use Rattle.xs_meaning.specs.Points.{Point, point, plus};
+ghost use Rattle.xs_meaning.specs.Rows.{by_points, row_of, row_under, value_under, camera_at, frame_of, frame_pixel};
 ghost use Rattle.xs_meaning.specs.Tables.{ColumnsFollow, NodesFollow, RowsFollow};
 ghost use Rattle.xs_meaning.specs.Walk.{sheet_at, whole_row, row_walk, walk, depth_of};
 ghost use Rattle.xs_scene.specs.Records.{SceneRecord, PegKeyRecord, ColumnRecord, ExposureRecord};
@@ -53,6 +54,17 @@ pub fn place_adds_the_parents_place()
     ensures { (s : SceneRecord) → AllEnd s.sheets → (k i row : ℕ) → i < length (sheet_at s.sheets k).pegs
         → place_of (sheet_at s.sheets k) (Some i) row
         ≡ plus (own_offset (peg_at (sheet_at s.sheets k) i).keys row) (place_of (sheet_at s.sheets k) (peg_at (sheet_at s.sheets k) i).parent row) }
+{}
+
+/// A frame has one pixel for each point that the camera sees, in rows from the lowest up and each from left
+/// to right.
+pub fn frames_go_row_by_row()
+    ensures count { (s : SceneRecord) (pictures : Pictures) (row : ℕ)
+        → length (frame_of s pictures row) ≡ s.camera.h * s.camera.w }
+    ensures order { (s : SceneRecord) (pictures : Pictures) (row x y : ℕ) (outside : Channels)
+        → x < s.camera.w → y < s.camera.h
+        → slice_index_or (frame_of s pictures row) (y * s.camera.w + x) outside
+        ≡ frame_pixel s pictures row (point (pos x) (pos y)) }
 {}
 
 /// To follow nested sheets or nodes further than the bounds of the definitions changes nothing.
