@@ -1,5 +1,4 @@
-use Rattle.std.proofs.Common.{◌≡◌, ◌≢◌, ◌<◌, ◌≤◌, ◌+◌, ◌⊎◌, ◌↔◌, ℕ, zero, suc, Bool, true, false, Option, Some, None, IfSome, List, [], ◌∷◌, All, AllPairs, Contains, length, map, get_or, take, refl, sym, ◌∙◌, ap, subst, inl, inr, arith}
-use Rattle.std.proofs.Math.ListN.{get_or-map}
+use Rattle.std.proofs.Common.{◌≡◌, ◌≢◌, ◌<◌, ◌≤◌, ◌+◌, ◌↔◌, ℕ, zero, suc, true, false, Option, Some, None, IfSome, List, [], ◌∷◌, All, AllPairs, Contains, length, map, get_or, take, refl, subst, inl, inr, arith}
 use Rattle.std.proofs.lemmas.Bool.{cases_lt, cases_Bool}
 use Rattle.std.proofs.lemmas.List.{get_or-take, get_or_past, length-map, length-take}
 use Rattle.std.proofs.lemmas.List.Elements.{Contains-append_cases}
@@ -19,10 +18,10 @@ use Rattle.xs_scene.specs.declared.node.Node.TheVariants.{Pair, Card, Shuffle, B
 use Rattle.xs_scene.specs.InRange.{IsInRange}
 use Rattle.xs_scene.specs.Records.{SceneRecord, SheetRecord, ColumnRecord, ExposureRecord, PegRecord, LevelRecord, ColoursRecord, StyleKeyRecord}
 use Rattle.xs_meaning.specs.Walk.{no_sheet, sheet_at}
-use Rattle.xs_meaning.specs.Ends.{InputsHave, AllEnd, NodesEnd, SheetsEnd, PegsEnd}
-use Rattle.xs_check.specs.Finding.{Finding, Unless, Then, Each, EachAt, IfThere}
+use Rattle.xs_meaning.specs.Ends.{InputsHave, NodesEnd, SheetsEnd, PegsEnd}
+use Rattle.xs_check.specs.Finding.{Finding, Unless, Each, EachAt, IfThere}
 use Rattle.xs_index.specs.Apart.{AreApart, DifferInRow, DifferInRowOrStyle}
-use Rattle.xs_check.specs.Good.{IsGood, IsGoodSheet, IsGoodColumn, IsGoodNode, IsGoodPeg, IsGoodPalette, HasFewEntries, HasPalette, IsThere, Targets, files_of, level_at}
+use Rattle.xs_check.specs.Good.{IsGood, IsGoodSheet, IsGoodColumn, IsGoodNode, IsGoodPeg, IsGoodPalette, HasFewEntries, HasPalette, IsThere, Targets, files_of}
 use Rattle.xs_check.specs.Links.{parent_links, input_links, node_in, nodes_in, sheet_links, sheets_in}
 use Rattle.xs_check.specs.Passes as pass
 use Rattle.xs_check.specs.Passes.{EachApart, FilesApart, NoLongChains, NoCycles, CellReferences, LevelReference}

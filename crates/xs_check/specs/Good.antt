@@ -1,6 +1,6 @@
 -- What checking establishes of a scene.
 use Rattle.xs_index.specs.Apart.{AreApart, DifferInRow, DifferInRowOrStyle}
-use Rattle.std.specs.Prelude.{◌≡◌, ◌≢◌, ◌≤◌, ◌<◌, ℕ, List, [], Option, Some, IfSome, All, AllPairs, length, flat_map, slice_index_or}
+use Rattle.std.specs.Prelude.{◌≢◌, ◌≤◌, ◌<◌, ℕ, List, [], Some, IfSome, All, AllPairs, length, flat_map, slice_index_or}
 use Rattle.xs_scene.specs.declared.level.Kind.{Kind}
 use Rattle.xs_scene.specs.declared.level.Kind.TheVariants.{Colour, Cm32}
 use Rattle.xs_scene.specs.declared.column.Shown.{Shown}
@@ -8,9 +8,9 @@ use Rattle.xs_scene.specs.declared.column.Shown.TheVariants.{Drawing, Sheet}
 use Rattle.xs_scene.specs.declared.node.Ref.{Ref}
 use Rattle.xs_scene.specs.declared.node.Ref.TheVariants.{Column as ToColumn, Node as ToNode}
 use Rattle.xs_scene.specs.declared.node.Node.{Node}
-use Rattle.xs_scene.specs.declared.node.Node.TheVariants.{Pair, Card, Shuffle, Blur, Keep, Delete}
+use Rattle.xs_scene.specs.declared.node.Node.TheVariants.{Shuffle, Keep, Delete}
 use Rattle.xs_scene.specs.InRange.{IsInRange}
-use Rattle.xs_scene.specs.Records.{SceneRecord, SheetRecord, ColumnRecord, ExposureRecord, PegRecord, PegKeyRecord, LevelRecord, ColoursRecord, StyleKeyRecord}
+use Rattle.xs_scene.specs.Records.{SceneRecord, SheetRecord, ColumnRecord, PegRecord, LevelRecord, ColoursRecord}
 use Rattle.xs_meaning.specs.Walk.{sheet_at}
 use Rattle.xs_meaning.specs.Ends.{AllEnd, InputsHave}
 

@@ -14,7 +14,7 @@ use Rattle.xs_scene.specs.declared.node.Ref.{Ref}
 use Rattle.xs_scene.specs.declared.node.Ref.TheVariants.{Column as ToColumn, Node as ToNode}
 use Rattle.xs_scene.specs.declared.node.Node.{Node}
 use Rattle.xs_scene.specs.declared.node.Node.TheVariants.{Pair, Card, Shuffle, Blur, Keep, Delete}
-use Rattle.xs_scene.specs.Records.{SceneRecord, SheetRecord, ColoursRecord, StyleKeyRecord, LevelRecord, PegRecord, PegKeyRecord, ColumnRecord, ExposureRecord}
+use Rattle.xs_scene.specs.Records.{SceneRecord, SheetRecord, ColoursRecord, LevelRecord, PegRecord, ColumnRecord, ExposureRecord}
 use Rattle.xs_meaning.specs.Walk.{sheet_at}
 use Rattle.xs_check.specs.Finding.{Finding, Nothing, Unless, Then, Each, EachAt, IfThere}
 use Rattle.xs_index.specs.Apart.{AreApart, DifferInRow, DifferInRowOrStyle}

@@ -1,4 +1,4 @@
-use Rattle.std.proofs.Common.{◌≡◌, ◌≢◌, ◌<◌, ◌∙◌, ℕ, List, [], All, false, true, is_some, length, map, take, get_or, sym, below_more, arith, Bor}
+use Rattle.std.proofs.Common.{◌≢◌, ◌<◌, ◌∙◌, ℕ, List, [], All, length, take, get_or, sym, below_more, arith, Bor}
 use Rattle.std.proofs.lemmas.List.{length-map}
 use Rattle.std.proofs.lemmas.Map.Text.{btree_map_updates_str}
 use Rattle.xs_check.proofs.Repeats.{no_text, texts, text_repeats, text_differs, knows_more}

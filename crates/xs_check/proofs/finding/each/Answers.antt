@@ -1,4 +1,4 @@
-use Rattle.std.proofs.Common.{◌≡◌, ◌<◌, ℕ, Bool, true, false, is_err, length, arith}
+use Rattle.std.proofs.Common.{◌≡◌, ◌<◌, true, false, is_err, length, arith}
 use Rattle.xs_json.specs.Paths.{index_at}
 use Rattle.xs_check.specs.Finding.{EachAt}
 use Rattle.xs_check.proofs.Findings.{each_passed, each_failed, finds_none}
