@@ -21,3 +21,5 @@ pub mod Commands
 pub mod Finishing
 pub mod Asking
 pub mod Accepting
+pub mod Fronts
+pub mod Rendering
