@@ -15,3 +15,5 @@ pub mod Commands
 pub mod Finishing
 pub mod Asking
 pub mod Accepting
+pub mod Fronts
+pub mod Rendering

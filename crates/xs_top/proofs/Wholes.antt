@@ -1,5 +1,5 @@
 -- What a whole run has done, from the part that it did.
-use Rattle.std.proofs.Common.{◌≡◌, ℕ, List, [], ◌∷◌, ◌++◌, length, take, drop, refl, sym, ap, ◌∙◌, inl, inr, Option, true, append_assoc}
+use Rattle.std.proofs.Common.{◌≡◌, ℕ, List, [], ◌∷◌, ◌++◌, length, take, drop, refl, sym, ap, ◌∙◌, inl, inr, Option, true, false, append_assoc}
 use Rattle.std.proofs.Math.Seq.{take-append_seam}
 use Rattle.std.proofs.lemmas.Bool.{false≢true}
 use Rattle.std.proofs.lemmas.List.{append-nil, take-append-drop}
@@ -9,10 +9,10 @@ use Rattle.xs_top.specs.declared.status.Status.{Status}
 use Rattle.xs_top.specs.declared.status.Status.TheVariants as answers
 use Rattle.xs_top.specs.Trace.{Ask, asks, puts, lines, Outcome, ended, Seen, grown}
 use Rattle.xs_top.specs.Runs.{Did, Stopped, StoppedAsking, StoppedNoting, GainedFront, is_broken, IsRun}
-use Rattle.xs_top.proofs.Parts.{asks-append, puts-append, lines-append, did_then}
+use Rattle.xs_top.proofs.Parts.{asks-append, puts-append, lines-append, did_then, stopped_whole}
 
 -- a list that came to what is told is a front part of a longer one
-front : {A : Type 0} (before now : Option (List A)) (part rest all : List A) → now ≡ more before part → all ≡ part ++ rest → (n : ℕ) × (now ≡ more before (take n all))
+pub front : {A : Type 0} (before now : Option (List A)) (part rest all : List A) → now ≡ more before part → all ≡ part ++ rest → (n : ℕ) × (now ≡ more before (take n all))
 front before now part rest all told split =
     (length part, rw (split, take-append_seam) told)
 
@@ -28,12 +28,12 @@ did_whole : (all : Outcome) (status : Status) (before now : Seen) → Did all (e
 did_whole all status before now did =
     did.told ∙ ap (grown before) (sym (ap (λ o. o.work) did.split ∙ append-nil did.done))
 
-pub whole_run : (all : Outcome) (status : Status) (before now : Seen) → Did all (ended status) before now → (status ≡ answers.ReadFault → ⊥) → IsRun all before now status
-whole_run all status before now did other = record {
+whole_run : (all : Outcome) (status : Status) (before now : Seen) → is_broken status ≡ false → Did all (ended status) before now → IsRun all before now status
+whole_run all status before now unbroken did = record {
   answer = λ _. sym (ap (λ o. o.status) did.split);
   whole = λ _. did_whole all status before now did;
   front = did_front all (ended status) before now did;
-  read = λ e. absurd (other e);
+  stopped = stopped_whole all before now status unbroken did;
 }
 
 -- the file that was asked for in vain was asked for
@@ -59,21 +59,21 @@ noting_front all before now stopped =
           (ap (λ o. lines o.work) stopped.did.split ∙ (lines-append stopped.did.done _ ∙ ap (λ bytes. lines stopped.did.done ++ bytes) (simp append_assoc)));
     }
 
-broken_run : (all : Outcome) (before now : Seen) (status : Status) → is_broken status ≡ true → GainedFront all before now → (status ≡ answers.ReadFault → StoppedAsking all before now) → IsRun all before now status
-broken_run all before now status broken front read =
-    record { answer = λ e. absurd (false≢true (sym e ∙ broken)); whole = λ e. absurd (false≢true (sym e ∙ broken)); front = front; read = read }
+broken_run : (all : Outcome) (before now : Seen) (status : Status) → is_broken status ≡ true → GainedFront all before now → Stopped all before now status → IsRun all before now status
+broken_run all before now status broken front stopped =
+    record { answer = λ e. absurd (false≢true (sym e ∙ broken)); whole = λ e. absurd (false≢true (sym e ∙ broken)); front = front; stopped = stopped }
 
 pub stopped_run : (all : Outcome) (before now : Seen) (status : Status) → Stopped all before now status → IsRun all before now status
 stopped_run all before now answers.ReadFault stopped =
-    broken_run all before now _ refl (did_front all _ before now (asked_part all before now stopped)) (λ _. stopped)
-stopped_run all before now answers.WriteFault (inl stopped) = broken_run all before now _ refl (did_front all _ before now stopped.did) (λ e. cc)
-stopped_run all before now answers.WriteFault (inr stopped) = broken_run all before now _ refl (noting_front all before now stopped) (λ e. cc)
-stopped_run all before now answers.Memory stopped = broken_run all before now _ refl (did_front all _ before now stopped.1) (λ e. cc)
-stopped_run all before now answers.Ok did = whole_run all _ before now did (λ e. cc)
-stopped_run all before now (answers.Usage usage) did = whole_run all _ before now did (λ e. cc)
-stopped_run all before now (answers.Scene fault) did = whole_run all _ before now did (λ e. cc)
-stopped_run all before now (answers.Level drawing code) did = whole_run all _ before now did (λ e. cc)
-stopped_run all before now answers.NotYet did = whole_run all _ before now did (λ e. cc)
+    broken_run all before now _ refl (did_front all _ before now (asked_part all before now stopped)) stopped
+stopped_run all before now answers.WriteFault (inl stopped) = broken_run all before now _ refl (did_front all _ before now stopped.did) (inl stopped)
+stopped_run all before now answers.WriteFault (inr stopped) = broken_run all before now _ refl (noting_front all before now stopped) (inr stopped)
+stopped_run all before now answers.Memory stopped = broken_run all before now _ refl (did_front all _ before now stopped.1) stopped
+stopped_run all before now answers.Ok did = whole_run all _ before now refl did
+stopped_run all before now (answers.Usage usage) did = whole_run all _ before now refl did
+stopped_run all before now (answers.Scene fault) did = whole_run all _ before now refl did
+stopped_run all before now (answers.Level drawing code) did = whole_run all _ before now refl did
+stopped_run all before now answers.NotYet did = whole_run all _ before now refl did
 
 -- where no file is left to be put on the shelf, all stand there
 pub all_placed : (all left : Outcome) (before now : Seen) → Did all left before now → puts left.work ≡ [] → now.shelf ≡ more before.shelf (puts all.work)

@@ -9,3 +9,4 @@ pub mod Scenes
 pub mod Outcome
 pub mod Causes
 pub mod Finished
+pub mod Rendered

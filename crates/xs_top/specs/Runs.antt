@@ -68,10 +68,11 @@ pub record GainedFront (all : Outcome) (before now : Seen) : Type 0 where
   pub notes : (n : ℕ) × (now.notes ≡ more before.notes (take n (lines all.work)))
 
 -- what a run with this outcome has done where it answers so: but for faults and want of memory the
--- answer and all the work are the outcome's; in each case a front part of the work was done, and after a
--- fault of reading exactly the part before the file that was asked for last
+-- answer and all the work are the outcome's; in each case a front part of the work was done, of all three
+-- lists together; after a fault of reading exactly the part up to the file that was asked for last, and
+-- after one of writing exactly the part before the file or the line that was not taken
 pub record IsRun (all : Outcome) (before now : Seen) (result : Status) : Type 0 where
   pub answer : is_broken result ≡ false → result ≡ all.status
   pub whole : is_broken result ≡ false → now ≡ grown before all.work
   pub front : GainedFront all before now
-  pub read : result ≡ answers.ReadFault → StoppedAsking all before now
+  pub stopped : Stopped all before now result

@@ -1,10 +1,12 @@
-ghost use Rattle.std.specs.Prelude.{◌≡◌, ◌≤◌, ◌⊎◌, Some, IfOk, IsErrOf, map, string_bytes, None, true};
+ghost use Rattle.std.specs.Prelude.{◌≡◌, ◌≤◌, ◌⊎◌, ℕ, List, Some, Ok, IfOk, IsErrOf, map, string_bytes, None, true};
 ghost use Rattle.xs_outside.specs.Told.{Rose, more};
 ghost use Rattle.xs_words.specs.Commands.{IsCommand};
+ghost use Rattle.xs_words.specs.Grammar.{reading_of};
 ghost use Rattle.xs_top.specs.Causes.{IsLost, is_lost};
 ghost use Rattle.xs_top.specs.Trace.{Seen, puts, ended, with_asked, with_notes};
 ghost use Rattle.xs_top.specs.Runs.{Runs, IsRun};
 ghost use Rattle.xs_top.specs.Told.{Files, Verdict, IsVerdict};
+ghost use Rattle.xs_top.specs.Rendered.{IsRendered, GainedFrames};
 ghost use Rattle.xs_top.specs.Outcome.{rendered_line, rendering, showing, commanding, outcome};
 
 use crate::render::render_rows;
@@ -181,6 +183,17 @@ pub fn run<L: Library, S: Shelf, T: Notes>(
         × IsRun (outcome files verdict (map string_bytes words.now.items))
         (record { asked = L.asked lib.old; shelf = S.objects shelf.old; notes = T.written notes.old })
         (record { asked = L.asked lib.new; shelf = S.objects shelf.new; notes = T.written notes.new }) result }
+
+    // A render that ends well is a whole one, and whatever it answers, the shelf gained frames of its rows
+    // from the first on and nothing else.
+    ensures rendered { (files : Files) → L.files lib.old ≡ Some files → (scene base : List ℕ) (from to workers : ℕ) → from ≤ to
+        → reading_of (map string_bytes words.now.items) ≡ Ok (Command.Render scene from to workers base) → result ≡ Status.Ok
+        → IsRendered files scene base from to
+        (record { asked = L.asked lib.old; shelf = S.objects shelf.old; notes = T.written notes.old })
+        (record { asked = L.asked lib.new; shelf = S.objects shelf.new; notes = T.written notes.new }) }
+    ensures frames { (files : Files) → L.files lib.old ≡ Some files → (scene base : List ℕ) (from to workers : ℕ) → from ≤ to
+        → reading_of (map string_bytes words.now.items) ≡ Ok (Command.Render scene from to workers base)
+        → GainedFrames files scene base from to (S.objects shelf.old) (S.objects shelf.new) }
 
     // A fault is told only where the count of its object rose, and so is an absent or too long file by a
     // library that does not tell its files.

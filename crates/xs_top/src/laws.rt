@@ -39,9 +39,13 @@ pub fn a_good_scene_is_rendered()
         → lines (rendering files verdict name from to base).work ≡ rendered_line (to + 1 - from) ++ 10 ∷ [] }
 {}
 
-/// No other render ends well.
+/// No other render ends well: a file says a scene without a fault, and each drawing that its rows need is there
+/// without a fault.
 pub fn only_a_good_scene_is_rendered()
-    ensures { (files : Files) (verdict : Verdict) (name base : List ℕ) (s : SceneRecord) (from to : ℕ) → from ≤ to
+    ensures said { (files : Files) (verdict : Verdict) (name base : List ℕ) (from to : ℕ) → from ≤ to
+        → (rendering files verdict name from to base).status ≡ answers.Ok
+        → (s : SceneRecord) × Says files name s × (verdict s ≡ None) }
+    ensures accepted { (files : Files) (verdict : Verdict) (name base : List ℕ) (s : SceneRecord) (from to : ℕ) → from ≤ to
         → Says files name s → (rendering files verdict name from to base).status ≡ answers.Ok
         → AreAccepted files s (rows_of from to) }
 {}
