@@ -10,7 +10,7 @@ use Rattle.xs_rawfile.specs.declared.fault.LevelCode.{LevelCode}
 use Rattle.xs_meaning.specs.Drawings.{Pictures}
 use Rattle.xs_scene.specs.Records.{SceneRecord}
 use Rattle.xs_scene_json.specs.SceneText.{scene_of}
-use Rattle.xs_needs.specs.Fresh.{fresh}
+use Rattle.xs_schematic.specs.Once.{fresh}
 use Rattle.xs_top.specs.declared.TheConstants.{SCENE_LIMIT}
 use Rattle.xs_top.specs.declared.status.Status.{Status}
 use Rattle.xs_top.specs.declared.status.Status.TheVariants as answers

@@ -3,7 +3,7 @@ use Rattle.xs_outside.specs.declared.object.Object.{Object}
 use Rattle.xs_outside.specs.Told.{more}
 use Rattle.xs_scene.specs.Records.{SceneRecord}
 use Rattle.xs_check.specs.Passes.{Checking}
-use Rattle.xs_needs.specs.Fresh.{each_once}
+use Rattle.xs_schematic.specs.Once.{each_once}
 use Rattle.xs_top.specs.Trace.{Seen}
 use Rattle.xs_top.specs.Told.{Files}
 use Rattle.xs_top.specs.Levels.{file_of, needed}
