@@ -3,13 +3,13 @@
 
 pub mod command;
 pub mod fault;
-pub mod law;
+pub mod laws;
 mod parts;
 pub mod reading;
 
 pub use command::Command;
 pub use fault::{Usage, WordsFault};
-pub use law::{first_fault_is_told, words_are_read_back};
+pub use laws::{first_fault_is_told, words_are_read_back};
 pub use reading::read_words;
 
 #[cfg(test)]

@@ -1,3 +1,5 @@
+//! Laws of the grammar, each on a function that does nothing: its contract is the law.
+
 ghost use Rattle.xs_words.specs.Grammar.{Words};
 ghost use Rattle.xs_words.specs.declared.command.Command.{Command};
 ghost use Rattle.xs_words.specs.Commands.{IsReadBack};

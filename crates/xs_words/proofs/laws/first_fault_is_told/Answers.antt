@@ -1,5 +1,5 @@
 use Rattle.xs_words.proofs.FirstFault.{tells_first_fault}
-use Rattle.xs_words.proofs.law.first_fault_is_told.Goals as goal
+use Rattle.xs_words.proofs.laws.first_fault_is_told.Goals as goal
 
 pub returns : goal.returns
 returns c = tells_first_fault
