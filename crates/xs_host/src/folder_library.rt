@@ -1,6 +1,6 @@
 ghost use Rattle.std.specs.Prelude.{◌≡◌, ◌≤◌, [], None, ⊤};
 ghost use Rattle.xs_outside.specs.Told.{Rose};
-ghost use Rattle.xs_outside.specs.Answers.{IsFetched, IsAsked};
+ghost use Rattle.xs_outside.specs.Answers.{IsFetched, IsAsked, KeepsFetch};
 ghost use Rattle.xs_outside.specs.Counts.{CountsFetch};
 
 use std::alloc::Global;
@@ -77,6 +77,7 @@ impl<R: Files> Library for FolderLibrary<'_, R> {
         ensures answer { IsFetched None name.now limit (Rose self.old self.new) result }
         ensures asked { IsAsked None None name.now result }
         ensures later { self.old ≤ self.new }
+        ensures keeps { KeepsFetch self.old self.new result }
         ensures counts { CountsFetch self.old self.new result }
     {
         let answer = read_file(self.rt, alloc, name, limit);

@@ -1,6 +1,6 @@
 ghost use Rattle.std.specs.Prelude.{◌≡◌, ◌≤◌, None};
 ghost use Rattle.xs_outside.specs.Told.{Rose};
-ghost use Rattle.xs_outside.specs.Answers.{IsPut};
+ghost use Rattle.xs_outside.specs.Answers.{IsPut, KeepsPut};
 ghost use Rattle.xs_outside.specs.Counts.{CountsPut};
 
 use std::alloc::Global;
@@ -64,6 +64,7 @@ impl<R: Files> Shelf for FolderShelf<'_, R> {
     fn put(&mut self, alloc: Global, name: &str, bytes: &[u8]) -> Put
         ensures answer { IsPut None None (record { name = name.now; bytes = bytes.now }) (Rose self.old self.new) result }
         ensures later { self.old ≤ self.new }
+        ensures keeps { KeepsPut self.old self.new result }
         ensures counts { CountsPut self.old self.new result }
     {
         // No name of a scene, a drawing or a frame begins with a dot.

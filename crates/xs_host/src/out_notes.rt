@@ -1,6 +1,6 @@
 ghost use Rattle.std.specs.Prelude.{◌≡◌, ◌≤◌, None};
 ghost use Rattle.xs_outside.specs.Told.{Rose};
-ghost use Rattle.xs_outside.specs.Answers.{IsNoted};
+ghost use Rattle.xs_outside.specs.Answers.{IsNoted, KeepsLine};
 ghost use Rattle.xs_outside.specs.Counts.{CountsLine};
 
 use std::alloc::{AllocError, Global};
@@ -49,6 +49,7 @@ impl<R: Print> Notes for OutNotes<'_, R> {
     fn line(&mut self, alloc: Global, bytes: &[u8]) -> Noted
         ensures answer { IsNoted None None bytes.now (Rose self.old self.new) result }
         ensures later { self.old ≤ self.new }
+        ensures keeps { KeepsLine self.old self.new result }
         ensures counts { CountsLine self.old self.new result }
     {
         let Ok(line) = ended_line(alloc, bytes) else {

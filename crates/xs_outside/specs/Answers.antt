@@ -39,3 +39,23 @@ IsNoted before now line rose noted.Done = now ≡ more before (line ++ 10 ∷ []
 IsNoted before now line rose noted.Failed =
     rose × ((written : ℕ) × (now ≡ more before (take written (line ++ 10 ∷ []))))
 IsNoted before now line rose noted.Memory = now ≡ before
+
+-- bytes and want of memory leave the count of faults
+abbrev pub KeepsFetch : ℕ → ℕ → Fetched → Type 0
+KeepsFetch before now (fetched.Bytes bytes) = now ≡ before
+KeepsFetch before now fetched.Absent = Unit {0}
+KeepsFetch before now fetched.TooLong = Unit {0}
+KeepsFetch before now fetched.Failed = Unit {0}
+KeepsFetch before now fetched.Memory = now ≡ before
+
+-- so do a file that was put on the shelf and want of memory
+abbrev pub KeepsPut : ℕ → ℕ → Put → Type 0
+KeepsPut before now put.Done = now ≡ before
+KeepsPut before now put.Failed = Unit {0}
+KeepsPut before now put.Memory = now ≡ before
+
+-- so do a line that was written and want of memory
+abbrev pub KeepsLine : ℕ → ℕ → Noted → Type 0
+KeepsLine before now noted.Done = now ≡ before
+KeepsLine before now noted.Failed = Unit {0}
+KeepsLine before now noted.Memory = now ≡ before

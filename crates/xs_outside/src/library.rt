@@ -1,6 +1,6 @@
 ghost use Rattle.std.specs.Prelude.{◌≡◌, ◌≤◌, ℕ, List, Option};
 ghost use Rattle.xs_outside.specs.Told.{Rose};
-ghost use Rattle.xs_outside.specs.Answers.{IsFetched, IsAsked};
+ghost use Rattle.xs_outside.specs.Answers.{IsFetched, IsAsked, KeepsFetch};
 
 use std::alloc::Global;
 
@@ -36,5 +36,6 @@ pub trait Library {
             (Rose (faults self.old) (faults self.new)) result }
         ensures asked { IsAsked (asked self.old) (asked self.new) name.now result }
         ensures same { files self.new ≡ files self.old }
-        ensures later { faults self.old ≤ faults self.new };
+        ensures later { faults self.old ≤ faults self.new }
+        ensures keeps { KeepsFetch (faults self.old) (faults self.new) result };
 }

@@ -1,7 +1,7 @@
 ghost use Rattle.std.specs.Prelude.{◌≡◌, ◌≤◌, [], ◌∷◌, ◌++◌, Some, OnOk, OnErr};
 ghost use Rattle.std.specs.Option.{option_map};
 ghost use Rattle.xs_outside.specs.Told.{Rose, more};
-ghost use Rattle.xs_outside.specs.Answers.{IsFetched, IsAsked};
+ghost use Rattle.xs_outside.specs.Answers.{IsFetched, IsAsked, KeepsFetch};
 ghost use Rattle.xs_outside.specs.Calls.{IsPlannedFetch};
 ghost use Rattle.xs_outside.specs.Files.{file_in};
 
@@ -115,6 +115,7 @@ impl Library for MemLibrary {
         ensures asked { IsAsked (Some self.old.asked) (Some self.new.asked) name.now result }
         ensures same { Some (file_in self.new.files) ≡ Some (file_in self.old.files) }
         ensures later { self.old.calls.faults ≤ self.new.calls.faults }
+        ensures keeps { KeepsFetch self.old.calls.faults self.new.calls.faults result }
         ensures kept { self.new.files ≡ self.old.files }
         ensures planned { IsPlannedFetch self.old.calls self.new.calls result }
     {

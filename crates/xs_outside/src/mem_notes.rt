@@ -1,6 +1,6 @@
 ghost use Rattle.std.specs.Prelude.{◌≡◌, ◌≤◌, [], ◌∷◌, ◌++◌, Some, OnOk, OnErr, take};
 ghost use Rattle.xs_outside.specs.Told.{Rose};
-ghost use Rattle.xs_outside.specs.Answers.{IsNoted};
+ghost use Rattle.xs_outside.specs.Answers.{IsNoted, KeepsLine};
 ghost use Rattle.xs_outside.specs.Calls.{IsPlannedLine};
 
 use crate::calls::Calls;
@@ -81,6 +81,7 @@ impl Notes for MemNotes {
         ensures answer { IsNoted (Some self.old.bytes) (Some self.new.bytes) bytes.now
             (Rose self.old.calls.faults self.new.calls.faults) result }
         ensures later { self.old.calls.faults ≤ self.new.calls.faults }
+        ensures keeps { KeepsLine self.old.calls.faults self.new.calls.faults result }
         ensures planned { IsPlannedLine self.old.calls self.new.calls result }
         ensures first_byte { result ≡ Noted.Failed → self.new.bytes ≡ self.old.bytes ++ take 1 bytes.now }
     {

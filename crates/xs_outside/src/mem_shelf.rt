@@ -1,6 +1,6 @@
 ghost use Rattle.std.specs.Prelude.{◌≡◌, ◌≤◌, [], ◌∷◌, ◌++◌, Some, OnOk, OnErr};
 ghost use Rattle.xs_outside.specs.Told.{Rose};
-ghost use Rattle.xs_outside.specs.Answers.{IsPut};
+ghost use Rattle.xs_outside.specs.Answers.{IsPut, KeepsPut};
 ghost use Rattle.xs_outside.specs.Calls.{IsPlannedPut};
 
 use crate::calls::Calls;
@@ -70,6 +70,7 @@ impl Shelf for MemShelf {
             (record { name = name.now; bytes = bytes.now })
             (Rose self.old.calls.faults self.new.calls.faults) result }
         ensures later { self.old.calls.faults ≤ self.new.calls.faults }
+        ensures keeps { KeepsPut self.old.calls.faults self.new.calls.faults result }
         ensures planned { IsPlannedPut self.old.calls self.new.calls result }
     {
         if self.calls.begin() {

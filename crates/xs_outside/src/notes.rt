@@ -1,6 +1,6 @@
 ghost use Rattle.std.specs.Prelude.{◌≤◌, ℕ, List, Option};
 ghost use Rattle.xs_outside.specs.Told.{Rose};
-ghost use Rattle.xs_outside.specs.Answers.{IsNoted};
+ghost use Rattle.xs_outside.specs.Answers.{IsNoted, KeepsLine};
 
 use std::alloc::Global;
 
@@ -27,5 +27,6 @@ pub trait Notes {
     fn line(&mut self, alloc: Global, bytes: &[u8]) -> Noted
         ensures answer { IsNoted (written self.old) (written self.new) bytes.now
             (Rose (faults self.old) (faults self.new)) result }
-        ensures later { faults self.old ≤ faults self.new };
+        ensures later { faults self.old ≤ faults self.new }
+        ensures keeps { KeepsLine (faults self.old) (faults self.new) result };
 }

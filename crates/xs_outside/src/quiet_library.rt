@@ -1,6 +1,6 @@
 ghost use Rattle.std.specs.Prelude.{◌≡◌, ◌≤◌, None};
 ghost use Rattle.xs_outside.specs.Told.{Rose};
-ghost use Rattle.xs_outside.specs.Answers.{IsFetched, IsAsked};
+ghost use Rattle.xs_outside.specs.Answers.{IsFetched, IsAsked, KeepsFetch};
 ghost use Rattle.xs_outside.specs.Counts.{CountsFetch};
 ghost use Rattle.xs_outside.specs.Quiet.{inner_of, faults_of};
 
@@ -44,6 +44,7 @@ impl<L: Library> Library for QuietLibrary<L> {
         ensures answer { IsFetched None name.now limit (Rose (faults_of self.old) (faults_of self.new)) result }
         ensures asked { IsAsked None None name.now result }
         ensures later { faults_of self.old ≤ faults_of self.new }
+        ensures keeps { KeepsFetch (faults_of self.old) (faults_of self.new) result }
 
         // The answer is one that the library inside may give.
         ensures inner { IsFetched (L.files (inner_of self.old)) name.now limit

@@ -1,7 +1,7 @@
 ghost use Rattle.std.specs.Prelude.{◌≡◌, ◌≤◌, ℕ, List, Option};
 ghost use Rattle.xs_outside.specs.declared.object.Object.{Object as NamedFile};
 ghost use Rattle.xs_outside.specs.Told.{Rose};
-ghost use Rattle.xs_outside.specs.Answers.{IsPut};
+ghost use Rattle.xs_outside.specs.Answers.{IsPut, KeepsPut};
 
 use std::alloc::Global;
 
@@ -30,5 +30,6 @@ pub trait Shelf {
         ensures answer { IsPut (objects self.old) (objects self.new)
             (record { name = name.now; bytes = bytes.now })
             (Rose (faults self.old) (faults self.new)) result }
-        ensures later { faults self.old ≤ faults self.new };
+        ensures later { faults self.old ≤ faults self.new }
+        ensures keeps { KeepsPut (faults self.old) (faults self.new) result };
 }

@@ -23,6 +23,19 @@ is_lost (answers.Scene fault) = is_lost_scene fault.code
 is_lost (answers.Level drawing code) = is_lost_level code
 is_lost status = false
 
+-- an answer of which a fault of the outside is the cause, or may be
+abbrev pub is_of_outside : Status → Bool
+is_of_outside answers.ReadFault = true
+is_of_outside answers.WriteFault = true
+is_of_outside (answers.Scene fault) = is_lost_scene fault.code
+is_of_outside (answers.Level drawing code) = is_lost_level code
+is_of_outside status = false
+
+-- a function came through, or its answer has another cause
+abbrev pub IsSilent : {A : Type 0} → Result A Status → Type 0
+IsSilent (Ok value) = Unit {0}
+IsSilent (Err status) = is_of_outside status ≡ false
+
 -- a function answered so
 abbrev pub IsLost : {A : Type 0} → Result A Status → Type 0
 IsLost (Ok value) = ⊥

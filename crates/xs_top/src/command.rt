@@ -1,8 +1,8 @@
-ghost use Rattle.std.specs.Prelude.{◌≡◌, ◌≤◌, ◌⊎◌, ℕ, List, Some, Ok, IfOk, IsErrOf, map, string_bytes, None, true};
+ghost use Rattle.std.specs.Prelude.{◌≡◌, ◌≤◌, ◌⊎◌, ℕ, List, Some, Ok, IfOk, IsErrOf, map, string_bytes, None, true, false};
 ghost use Rattle.xs_outside.specs.Told.{Rose, more};
 ghost use Rattle.xs_words.specs.Commands.{IsCommand};
 ghost use Rattle.xs_words.specs.Grammar.{reading_of};
-ghost use Rattle.xs_top.specs.Causes.{IsLost, is_lost};
+ghost use Rattle.xs_top.specs.Causes.{IsLost, IsSilent, is_lost, is_of_outside};
 ghost use Rattle.xs_top.specs.Trace.{Seen, puts, ended, with_asked, with_notes};
 ghost use Rattle.xs_top.specs.Runs.{Runs, IsRun};
 ghost use Rattle.xs_top.specs.Told.{Files, Verdict, IsVerdict};
@@ -48,8 +48,11 @@ fn render<L: Library, S: Shelf, T: Notes>(
         (record { asked = L.asked lib.new; shelf = S.objects shelf.new; notes = T.written notes.new }) result }
     ensures untold { L.files lib.old ≡ None → IsLost result → Rose (L.faults lib.old) (L.faults lib.new) }
     ensures read { IsErrOf result Status.ReadFault → Rose (L.faults lib.old) (L.faults lib.new) }
+    ensures silent { IsSilent result → L.faults lib.new ≡ L.faults lib.old }
     ensures write { IsErrOf result Status.WriteFault
         → Rose (S.faults shelf.old) (S.faults shelf.new) ⊎ Rose (T.faults notes.old) (T.faults notes.new) }
+    ensures silent_shelf { IsSilent result → S.faults shelf.new ≡ S.faults shelf.old }
+    ensures silent_notes { IsSilent result → T.faults notes.new ≡ T.faults notes.old }
     ensures placed { (files : Files) → L.files lib.old ≡ Some files → (verdict : Verdict) → IsVerdict files verdict
         → IsErrOf result Status.WriteFault
         → (S.objects shelf.new ≡ more (S.objects shelf.old) (puts (rendering files verdict scene.now from to base.now).work))
@@ -75,7 +78,9 @@ fn show<L: Library, T: Notes>(
         (with_notes (with_asked seen (L.asked lib.new)) (T.written notes.new)) result }
     ensures untold { L.files lib.old ≡ None → IsLost result → Rose (L.faults lib.old) (L.faults lib.new) }
     ensures read { IsErrOf result Status.ReadFault → Rose (L.faults lib.old) (L.faults lib.new) }
+    ensures silent { IsSilent result → L.faults lib.new ≡ L.faults lib.old }
     ensures write { IsErrOf result Status.WriteFault → Rose (T.faults notes.old) (T.faults notes.new) }
+    ensures silent_notes { IsSilent result → T.faults notes.new ≡ T.faults notes.old }
 {
     let good = load_scene(alloc, lib, scene)?;
     let line = encode(alloc, &good.into_scene().migrated())?;
@@ -98,8 +103,11 @@ fn obey<L: Library, S: Shelf, T: Notes>(
         (record { asked = L.asked lib.new; shelf = S.objects shelf.new; notes = T.written notes.new }) result }
     ensures untold { L.files lib.old ≡ None → IsLost result → Rose (L.faults lib.old) (L.faults lib.new) }
     ensures read { IsErrOf result Status.ReadFault → Rose (L.faults lib.old) (L.faults lib.new) }
+    ensures silent { IsSilent result → L.faults lib.new ≡ L.faults lib.old }
     ensures write { IsErrOf result Status.WriteFault
         → Rose (S.faults shelf.old) (S.faults shelf.new) ⊎ Rose (T.faults notes.old) (T.faults notes.new) }
+    ensures silent_shelf { IsSilent result → S.faults shelf.new ≡ S.faults shelf.old }
+    ensures silent_notes { IsSilent result → T.faults notes.new ≡ T.faults notes.old }
     ensures placed { (files : Files) → L.files lib.old ≡ Some files → (verdict : Verdict) → IsVerdict files verdict
         → IsErrOf result Status.WriteFault
         → (S.objects shelf.new ≡ more (S.objects shelf.old) (puts (commanding files verdict command.now).work))
@@ -157,8 +165,11 @@ fn try_run<L: Library, S: Shelf, T: Notes>(
         (record { asked = L.asked lib.new; shelf = S.objects shelf.new; notes = T.written notes.new }) result }
     ensures untold { L.files lib.old ≡ None → IsLost result → Rose (L.faults lib.old) (L.faults lib.new) }
     ensures read { IsErrOf result Status.ReadFault → Rose (L.faults lib.old) (L.faults lib.new) }
+    ensures silent { IsSilent result → L.faults lib.new ≡ L.faults lib.old }
     ensures write { IsErrOf result Status.WriteFault
         → Rose (S.faults shelf.old) (S.faults shelf.new) ⊎ Rose (T.faults notes.old) (T.faults notes.new) }
+    ensures silent_shelf { IsSilent result → S.faults shelf.new ≡ S.faults shelf.old }
+    ensures silent_notes { IsSilent result → T.faults notes.new ≡ T.faults notes.old }
     ensures placed { (files : Files) → L.files lib.old ≡ Some files → (verdict : Verdict) → IsVerdict files verdict
         → IsErrOf result Status.WriteFault
         → (S.objects shelf.new ≡ more (S.objects shelf.old) (puts (outcome files verdict (map string_bytes words.now.items)).work))
@@ -201,6 +212,11 @@ pub fn run<L: Library, S: Shelf, T: Notes>(
     ensures read { result ≡ Status.ReadFault → Rose (L.faults lib.old) (L.faults lib.new) }
     ensures write { result ≡ Status.WriteFault
         → Rose (S.faults shelf.old) (S.faults shelf.new) ⊎ Rose (T.faults notes.old) (T.faults notes.new) }
+
+    // No fault is passed over: any other answer leaves the counts.
+    ensures silent { is_of_outside result ≡ false → L.faults lib.new ≡ L.faults lib.old }
+    ensures silent_shelf { is_of_outside result ≡ false → S.faults shelf.new ≡ S.faults shelf.old }
+    ensures silent_notes { is_of_outside result ≡ false → T.faults notes.new ≡ T.faults notes.old }
 
     // After a fault of writing that is not the shelf's, each frame stands on the shelf.
     ensures placed { (files : Files) → L.files lib.old ≡ Some files → result ≡ Status.WriteFault

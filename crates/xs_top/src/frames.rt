@@ -4,7 +4,7 @@ ghost use Rattle.xs_direct.specs.Pictures.{AreHeld};
 ghost use Rattle.xs_meaning.specs.Drawings.{Pictures, ArePixels};
 ghost use Rattle.xs_meaning.specs.Expressions.{drawings_of, root_of};
 ghost use Rattle.xs_outside.specs.Told.{Rose};
-ghost use Rattle.xs_top.specs.Causes.{IsLost};
+ghost use Rattle.xs_top.specs.Causes.{IsLost, IsSilent};
 ghost use Rattle.xs_top.specs.Trace.{Outcome, Seen, with_shelf};
 ghost use Rattle.xs_top.specs.Runs.{Runs};
 ghost use Rattle.xs_top.specs.Frames.{frame_name_of, frame_at};
@@ -51,6 +51,7 @@ fn place_row<K: Film, S: Shelf>(
     ensures found { IsLost result → ⊥ }
     ensures read { IsErrOf result Status.ReadFault → ⊥ }
     ensures write { IsErrOf result Status.WriteFault → Rose (S.faults shelf.old) (S.faults shelf.new) }
+    ensures silent { IsSilent result → S.faults shelf.new ≡ S.faults shelf.old }
 {
     let name = frame_name(alloc, base, row)?;
     let bytes = frame_direct(alloc, good, drawings, row)?;
@@ -77,6 +78,7 @@ pub(crate) fn place_rows<K: Film, S: Shelf>(
     ensures found { IsLost result → ⊥ }
     ensures read { IsErrOf result Status.ReadFault → ⊥ }
     ensures write { IsErrOf result Status.WriteFault → Rose (S.faults shelf.old) (S.faults shelf.new) }
+    ensures silent { IsSilent result → S.faults shelf.new ≡ S.faults shelf.old }
 {
     for i in 0..rows {
         place_row(alloc, good, drawings, first + i, base, shelf)?;

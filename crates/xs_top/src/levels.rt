@@ -5,7 +5,7 @@ ghost use Rattle.xs_meaning.specs.Expressions.{drawings_of, root_of};
 ghost use Rattle.xs_schematic.specs.Once.{fresh};
 ghost use Rattle.xs_outside.specs.Told.{Rose};
 ghost use Rattle.xs_rawfile.specs.Level.{first_fault, raw_of};
-ghost use Rattle.xs_top.specs.Causes.{IsLost};
+ghost use Rattle.xs_top.specs.Causes.{IsLost, IsSilent};
 ghost use Rattle.xs_top.specs.Trace.{Outcome, Seen, with_asked};
 ghost use Rattle.xs_top.specs.Runs.{Runs};
 ghost use Rattle.xs_top.specs.Told.{Files};
@@ -80,6 +80,7 @@ fn fetch_drawing<L: Library>(
     ensures later { L.faults lib.old ≤ L.faults lib.new }
     ensures untold { L.files lib.old ≡ None → IsLost result → Rose (L.faults lib.old) (L.faults lib.new) }
     ensures read { IsErrOf result Status.ReadFault → Rose (L.faults lib.old) (L.faults lib.new) }
+    ensures silent { IsSilent result → L.faults lib.new ≡ L.faults lib.old }
     ensures write { IsErrOf result Status.WriteFault → ⊥ }
 {
     let absent = Status::Level {
@@ -122,6 +123,7 @@ fn load_drawing<K: Film, L: Library>(
     ensures later { L.faults lib.old ≤ L.faults lib.new }
     ensures untold { L.files lib.old ≡ None → IsLost result → Rose (L.faults lib.old) (L.faults lib.new) }
     ensures read { IsErrOf result Status.ReadFault → Rose (L.faults lib.old) (L.faults lib.new) }
+    ensures silent { IsSilent result → L.faults lib.new ≡ L.faults lib.old }
     ensures write { IsErrOf result Status.WriteFault → ⊥ }
 {
     let kind = good.kind(d);
@@ -151,6 +153,7 @@ fn load_if_new<K: Film, L: Library>(
     ensures later { L.faults lib.old ≤ L.faults lib.new }
     ensures untold { L.files lib.old ≡ None → IsLost result → Rose (L.faults lib.old) (L.faults lib.new) }
     ensures read { IsErrOf result Status.ReadFault → Rose (L.faults lib.old) (L.faults lib.new) }
+    ensures silent { IsSilent result → L.faults lib.new ≡ L.faults lib.old }
     ensures write { IsErrOf result Status.WriteFault → ⊥ }
 {
     if drawings.get(d).is_some() {
@@ -181,6 +184,7 @@ fn load_drawings<K: Film, L: Library>(
     ensures later { L.faults lib.old ≤ L.faults lib.new }
     ensures untold { L.files lib.old ≡ None → IsLost result → Rose (L.faults lib.old) (L.faults lib.new) }
     ensures read { IsErrOf result Status.ReadFault → Rose (L.faults lib.old) (L.faults lib.new) }
+    ensures silent { IsSilent result → L.faults lib.new ≡ L.faults lib.old }
     ensures write { IsErrOf result Status.WriteFault → ⊥ }
 {
     for d in numbers {
@@ -210,6 +214,7 @@ fn load_row<K: Film, L: Library>(
     ensures later { L.faults lib.old ≤ L.faults lib.new }
     ensures untold { L.files lib.old ≡ None → IsLost result → Rose (L.faults lib.old) (L.faults lib.new) }
     ensures read { IsErrOf result Status.ReadFault → Rose (L.faults lib.old) (L.faults lib.new) }
+    ensures silent { IsSilent result → L.faults lib.new ≡ L.faults lib.old }
     ensures write { IsErrOf result Status.WriteFault → ⊥ }
 {
     let numbers = row_drawings(alloc, good, row)?;
@@ -240,6 +245,7 @@ pub(crate) fn load_rows<K: Film, L: Library>(
     ensures later { L.faults lib.old ≤ L.faults lib.new }
     ensures untold { L.files lib.old ≡ None → IsLost result → Rose (L.faults lib.old) (L.faults lib.new) }
     ensures read { IsErrOf result Status.ReadFault → Rose (L.faults lib.old) (L.faults lib.new) }
+    ensures silent { IsSilent result → L.faults lib.new ≡ L.faults lib.old }
     ensures write { IsErrOf result Status.WriteFault → ⊥ }
 {
     for i in 0..rows {

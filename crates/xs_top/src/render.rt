@@ -1,7 +1,7 @@
 ghost use Rattle.std.specs.Prelude.{◌≡◌, ◌≤◌, ◌<◌, ◌+◌, ◌^◌, ◌⊎◌, [], List, ℕ, ◌++◌, Some, OnOk, IsErrOf, None};
 ghost use Rattle.std.specs.List.{range_with_len};
 ghost use Rattle.xs_outside.specs.Told.{Rose};
-ghost use Rattle.xs_top.specs.Causes.{IsLost};
+ghost use Rattle.xs_top.specs.Causes.{IsLost, IsSilent};
 ghost use Rattle.xs_top.specs.Trace.{Outcome, Seen, with_asked, with_shelf};
 ghost use Rattle.xs_top.specs.Runs.{Runs};
 ghost use Rattle.xs_top.specs.Told.{Files};
@@ -50,7 +50,9 @@ fn render_section<K: Film, L: Library, S: Shelf>(
     ensures later_shelf { S.faults shelf.old ≤ S.faults shelf.new }
     ensures untold { L.files lib.old ≡ None → IsLost result → Rose (L.faults lib.old) (L.faults lib.new) }
     ensures read { IsErrOf result Status.ReadFault → Rose (L.faults lib.old) (L.faults lib.new) }
+    ensures silent { IsSilent result → L.faults lib.new ≡ L.faults lib.old }
     ensures write { IsErrOf result Status.WriteFault → Rose (S.faults shelf.old) (S.faults shelf.new) }
+    ensures silent_shelf { IsSilent result → S.faults shelf.new ≡ S.faults shelf.old }
 {
     load_rows(alloc, good, first, rows, lib, drawings)?;
     place_rows(alloc, good, drawings, first, rows, base, shelf)?;
@@ -82,7 +84,9 @@ fn render_sections<K: Film, L: Library, S: Shelf>(
     ensures later_shelf { S.faults shelf.old ≤ S.faults shelf.new }
     ensures untold { L.files lib.old ≡ None → IsLost result → Rose (L.faults lib.old) (L.faults lib.new) }
     ensures read { IsErrOf result Status.ReadFault → Rose (L.faults lib.old) (L.faults lib.new) }
+    ensures silent { IsSilent result → L.faults lib.new ≡ L.faults lib.old }
     ensures write { IsErrOf result Status.WriteFault → Rose (S.faults shelf.old) (S.faults shelf.new) }
+    ensures silent_shelf { IsSilent result → S.faults shelf.new ≡ S.faults shelf.old }
 {
     let sections = (to - from) / SECTION + 1;
     for section in 0..sections {
@@ -115,7 +119,9 @@ pub(crate) fn render_rows<K: Film, L: Library, S: Shelf>(
     ensures later_shelf { S.faults shelf.old ≤ S.faults shelf.new }
     ensures untold { L.files lib.old ≡ None → IsLost result → Rose (L.faults lib.old) (L.faults lib.new) }
     ensures read { IsErrOf result Status.ReadFault → Rose (L.faults lib.old) (L.faults lib.new) }
+    ensures silent { IsSilent result → L.faults lib.new ≡ L.faults lib.old }
     ensures write { IsErrOf result Status.WriteFault → Rose (S.faults shelf.old) (S.faults shelf.new) }
+    ensures silent_shelf { IsSilent result → S.faults shelf.new ≡ S.faults shelf.old }
 {
     let palettes = palettes(alloc, good)?;
     let mut drawings: Drawings<K> = Drawings::new(alloc, good.drawings(), palettes)?;

@@ -3,7 +3,7 @@ ghost use Rattle.xs_outside.specs.Told.{Rose};
 ghost use Rattle.xs_check.specs.Passes.{Checking};
 ghost use Rattle.xs_scene.specs.Records.{SceneRecord};
 ghost use Rattle.xs_scene_json.specs.SceneText.{scene_of};
-ghost use Rattle.xs_top.specs.Causes.{IsLost};
+ghost use Rattle.xs_top.specs.Causes.{IsLost, IsSilent};
 ghost use Rattle.xs_top.specs.Trace.{Outcome, Seen, with_asked};
 ghost use Rattle.xs_top.specs.Runs.{Runs};
 ghost use Rattle.xs_top.specs.Scenes.{ReadsScene};
@@ -34,6 +34,7 @@ pub(crate) fn load_scene<L: Library>(
     ensures later { L.faults lib.old ≤ L.faults lib.new }
     ensures untold { L.files lib.old ≡ None → IsLost result → Rose (L.faults lib.old) (L.faults lib.new) }
     ensures read { IsErrOf result Status.ReadFault → Rose (L.faults lib.old) (L.faults lib.new) }
+    ensures silent { IsSilent result → L.faults lib.new ≡ L.faults lib.old }
     ensures write { IsErrOf result Status.WriteFault → ⊥ }
 {
     let absent = refusal(alloc, SceneCode::NoScene);

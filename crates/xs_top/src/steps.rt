@@ -1,6 +1,6 @@
-ghost use Rattle.std.specs.Prelude.{◌≡◌, ◌≤◌, ◌⊎◌, false, [], List, ℕ, None, Some, Err, length, IfOk, IfErr, IfSome, IsErrOf};
+ghost use Rattle.std.specs.Prelude.{◌≡◌, ◌≤◌, ◌⊎◌, false, true, [], List, ℕ, None, Some, Err, length, IfOk, IfErr, IfSome, IsErrOf};
 ghost use Rattle.xs_outside.specs.Told.{Rose};
-ghost use Rattle.xs_top.specs.Causes.{IsLost};
+ghost use Rattle.xs_top.specs.Causes.{IsLost, IsSilent, is_of_outside};
 ghost use Rattle.xs_top.specs.Trace.{Outcome, Seen, puts, with_asked, with_shelf, with_notes};
 ghost use Rattle.xs_top.specs.Runs.{Runs, is_broken};
 ghost use Rattle.xs_top.specs.Told.{Files};
@@ -21,6 +21,8 @@ pub(crate) fn ask<L: Library>(
 ) -> Result<Vec<u8>, Status>
     requires absent { is_broken absent ≡ false }
     requires too_long { is_broken too_long ≡ false }
+    requires told_absent { is_of_outside absent ≡ true }
+    requires told_too_long { is_of_outside too_long ≡ true }
     ensures told { (files : Files) → L.files lib.old ≡ Some files → (next : List ℕ → Outcome) (seen : Seen) →
         Runs (asking files name.now limit absent too_long next) (λ bytes. next bytes.items)
         (with_asked seen (L.asked lib.old)) (with_asked seen (L.asked lib.new)) result }
@@ -29,6 +31,7 @@ pub(crate) fn ask<L: Library>(
     ensures same { L.files lib.new ≡ L.files lib.old }
     ensures later { L.faults lib.old ≤ L.faults lib.new }
     ensures read { IsErrOf result Status.ReadFault → Rose (L.faults lib.old) (L.faults lib.new) }
+    ensures silent { IsSilent result → L.faults lib.new ≡ L.faults lib.old }
     ensures write { IsErrOf result Status.WriteFault → ⊥ }
     ensures untold { L.files lib.old ≡ None → IfErr result
         (λ status. (status ≡ Status.Memory) ⊎ Rose (L.faults lib.old) (L.faults lib.new)) }
@@ -56,6 +59,7 @@ pub(crate) fn place<S: Shelf>(
     ensures found { IsLost result → ⊥ }
     ensures read { IsErrOf result Status.ReadFault → ⊥ }
     ensures write { IsErrOf result Status.WriteFault → Rose (S.faults shelf.old) (S.faults shelf.new) }
+    ensures silent { IsSilent result → S.faults shelf.new ≡ S.faults shelf.old }
 {
     match shelf.put(alloc, name, bytes) {
         Put::Done => Ok(()),
@@ -73,6 +77,7 @@ pub(crate) fn note<T: Notes>(alloc: Global, notes: &mut T, line: &[u8]) -> Resul
     ensures found { IsLost result → ⊥ }
     ensures read { IsErrOf result Status.ReadFault → ⊥ }
     ensures write { IsErrOf result Status.WriteFault → Rose (T.faults notes.old) (T.faults notes.new) }
+    ensures silent { IsSilent result → T.faults notes.new ≡ T.faults notes.old }
 {
     match notes.line(alloc, line) {
         Noted::Done => Ok(()),

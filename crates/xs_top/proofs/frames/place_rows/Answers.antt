@@ -1,4 +1,4 @@
-use Rattle.std.proofs.Common.{◌≡◌, ◌+◌, ◌-◌, ◌<◌, ◌≤◌, List, ℕ, arith}
+use Rattle.std.proofs.Common.{◌≡◌, ◌+◌, ◌-◌, ◌<◌, ◌≤◌, ◌∙◌, refl, List, ℕ, arith}
 use Rattle.std.specs.List.{range_with_len}
 use Rattle.std.proofs.lemmas.Result.{err_from_is_err_and}
 use Rattle.xs_scene.specs.Records.{SceneRecord}
@@ -20,6 +20,7 @@ loop-i-init g c = record {
       let all : c.args.rows - 0 ≡ c.args.rows = omega arith in
       rw (here, all) (did_nothing _ _);
   later = omega arith;
+  silent = refl;
 }
 
 pub returns-in_err-place_row-clause-told : goal.returns-in_err-place_row-clause-told
@@ -41,6 +42,7 @@ loop-i-preserved g c =
           let then = c.in_ok-place_row.ensures.told pictures told pixels (row_held c.args.drawings.now c.args.good.now i c.args.first c.args.rows within held) (rest c.args.good.now pictures c.args.base.now c.args.first c.args.rows (i + 1) next) seen in
           did_then first (rw (placing_row c.args.good.now pictures c.args.base.now c.args.first c.args.rows i next within) then);
       later = omega (arith, c.in_ok-place_row.ensures.later, c.loop-i.invariant.later);
+      silent = c.in_ok-place_row.ensures.silent tt ∙ c.loop-i.invariant.silent;
     }
 
 pub returns-clause-told : goal.returns-clause-told

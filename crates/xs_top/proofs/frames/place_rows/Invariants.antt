@@ -17,4 +17,5 @@ invariant-loop-i g l =
           (placing_rows l.good pictures l.base (range_with_len (l.first + l.i) (l.rows - l.i)) next)
           (with_shelf seen (g.S.Shelf.objects l.initial.shelf)) (with_shelf seen (g.S.Shelf.objects l.shelf));
       later : g.S.Shelf.faults l.initial.shelf ≤ g.S.Shelf.faults l.shelf;
+      silent : g.S.Shelf.faults l.shelf ≡ g.S.Shelf.faults l.initial.shelf;
     }

@@ -21,6 +21,7 @@ loop-d-init g c = record {
   room = c.requires.room;
   same = refl;
   later = omega arith;
+  silent = refl;
 }
 
 pub returns-in_err-load_if_new-clause-told : goal.returns-in_err-load_if_new-clause-told
@@ -48,6 +49,7 @@ loop-d-preserved g c =
       room = c.in_ok-load_if_new.ensures.room;
       same = c.in_ok-load_if_new.ensures.same ∙ c.loop-d.invariant.same;
       later = omega (arith, c.in_ok-load_if_new.ensures.later, c.loop-d.invariant.later);
+      silent = c.in_ok-load_if_new.ensures.silent tt ∙ c.loop-d.invariant.silent;
     }
 
 pub returns-clause-told : goal.returns-clause-told

@@ -19,4 +19,5 @@ invariant-loop-d g l =
       room : HasRoom l.good l.drawings;
       same : g.L.Library.files l.lib ≡ g.L.Library.files l.initial.lib;
       later : g.L.Library.faults l.initial.lib ≤ g.L.Library.faults l.lib;
+      silent : g.L.Library.faults l.lib ≡ g.L.Library.faults l.initial.lib;
     }

@@ -27,6 +27,7 @@ loop-i-init g c = record {
   room = c.requires.room;
   same = refl;
   later = omega arith;
+  silent = refl;
 }
 
 pub returns-in_err-load_row-clause-told : goal.returns-in_err-load_row-clause-told
@@ -52,6 +53,7 @@ loop-i-preserved g c =
       room = c.in_ok-load_row.ensures.room;
       same = c.in_ok-load_row.ensures.same ∙ c.loop-i.invariant.same;
       later = omega (arith, c.in_ok-load_row.ensures.later, c.loop-i.invariant.later);
+      silent = c.in_ok-load_row.ensures.silent tt ∙ c.loop-i.invariant.silent;
     }
 
 pub returns-clause-told : goal.returns-clause-told

@@ -20,4 +20,5 @@ invariant-loop-i g l =
       room : HasRoom l.good l.drawings;
       same : g.L.Library.files l.lib ≡ g.L.Library.files l.initial.lib;
       later : g.L.Library.faults l.initial.lib ≤ g.L.Library.faults l.lib;
+      silent : g.L.Library.faults l.lib ≡ g.L.Library.faults l.initial.lib;
     }

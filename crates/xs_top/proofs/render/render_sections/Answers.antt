@@ -25,7 +25,9 @@ loop-section-init g c = record {
   room = c.requires.room;
   same = refl;
   later = omega arith;
+  silent = refl;
   later_shelf = omega arith;
+  silent_shelf = refl;
 }
 
 pub returns-in_err-render_section-clause-told : goal.returns-in_err-render_section-clause-told
@@ -52,7 +54,9 @@ loop-section-preserved g c =
       room = c.in_ok-render_section.ensures.room;
       same = c.in_ok-render_section.ensures.same ∙ c.loop-section.invariant.same;
       later = omega (arith, c.in_ok-render_section.ensures.later, c.loop-section.invariant.later);
+      silent = c.in_ok-render_section.ensures.silent tt ∙ c.loop-section.invariant.silent;
       later_shelf = omega (arith, c.in_ok-render_section.ensures.later_shelf, c.loop-section.invariant.later_shelf);
+      silent_shelf = c.in_ok-render_section.ensures.silent_shelf tt ∙ c.loop-section.invariant.silent_shelf;
     }
 
 pub returns-clause-told : goal.returns-clause-told

@@ -21,5 +21,7 @@ invariant-loop-section g l =
       room : HasRoom l.good l.drawings;
       same : g.L.Library.files l.lib ≡ g.L.Library.files l.initial.lib;
       later : g.L.Library.faults l.initial.lib ≤ g.L.Library.faults l.lib;
+      silent : g.L.Library.faults l.lib ≡ g.L.Library.faults l.initial.lib;
       later_shelf : g.S.Shelf.faults l.initial.shelf ≤ g.S.Shelf.faults l.shelf;
+      silent_shelf : g.S.Shelf.faults l.shelf ≡ g.S.Shelf.faults l.initial.shelf;
     }
