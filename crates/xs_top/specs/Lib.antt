@@ -10,3 +10,4 @@ pub mod Outcome
 pub mod Causes
 pub mod Finished
 pub mod Rendered
+pub mod Leaves

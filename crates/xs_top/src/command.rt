@@ -4,6 +4,7 @@ ghost use Rattle.xs_words.specs.Commands.{IsCommand};
 ghost use Rattle.xs_words.specs.Grammar.{reading_of};
 ghost use Rattle.xs_top.specs.Causes.{IsLost, IsSilent, is_lost, is_of_outside};
 ghost use Rattle.xs_top.specs.Trace.{Seen, puts, ended, with_asked, with_notes};
+ghost use Rattle.xs_top.specs.Leaves.{LeavesLibrary, LeavesOutput};
 ghost use Rattle.xs_top.specs.Runs.{Runs, IsRun};
 ghost use Rattle.xs_top.specs.Told.{Files, Verdict, IsVerdict};
 ghost use Rattle.xs_top.specs.Rendered.{IsRendered, GainedFrames};
@@ -46,9 +47,7 @@ fn render<L: Library, S: Shelf, T: Notes>(
         → Runs (rendering files verdict scene.now from to base.now) (λ _. ended Status.Ok)
         (record { asked = L.asked lib.old; shelf = S.objects shelf.old; notes = T.written notes.old })
         (record { asked = L.asked lib.new; shelf = S.objects shelf.new; notes = T.written notes.new }) result }
-    ensures untold { L.files lib.old ≡ None → IsLost result → Rose (L.faults lib.old) (L.faults lib.new) }
-    ensures read { IsErrOf result Status.ReadFault → Rose (L.faults lib.old) (L.faults lib.new) }
-    ensures silent { IsSilent result → L.faults lib.new ≡ L.faults lib.old }
+    ensures library { LeavesLibrary (L.files lib.old) (L.files lib.new) (L.faults lib.old) (L.faults lib.new) result }
     ensures write { IsErrOf result Status.WriteFault
         → Rose (S.faults shelf.old) (S.faults shelf.new) ⊎ Rose (T.faults notes.old) (T.faults notes.new) }
     ensures silent_shelf { IsSilent result → S.faults shelf.new ≡ S.faults shelf.old }
@@ -76,11 +75,8 @@ fn show<L: Library, T: Notes>(
         → (seen : Seen) → Runs (showing files verdict scene.now) (λ _. ended Status.Ok)
         (with_notes (with_asked seen (L.asked lib.old)) (T.written notes.old))
         (with_notes (with_asked seen (L.asked lib.new)) (T.written notes.new)) result }
-    ensures untold { L.files lib.old ≡ None → IsLost result → Rose (L.faults lib.old) (L.faults lib.new) }
-    ensures read { IsErrOf result Status.ReadFault → Rose (L.faults lib.old) (L.faults lib.new) }
-    ensures silent { IsSilent result → L.faults lib.new ≡ L.faults lib.old }
-    ensures write { IsErrOf result Status.WriteFault → Rose (T.faults notes.old) (T.faults notes.new) }
-    ensures silent_notes { IsSilent result → T.faults notes.new ≡ T.faults notes.old }
+    ensures library { LeavesLibrary (L.files lib.old) (L.files lib.new) (L.faults lib.old) (L.faults lib.new) result }
+    ensures notes { LeavesOutput (T.faults notes.old) (T.faults notes.new) result }
 {
     let good = load_scene(alloc, lib, scene)?;
     let line = encode(alloc, &good.into_scene().migrated())?;
@@ -101,9 +97,7 @@ fn obey<L: Library, S: Shelf, T: Notes>(
         → Runs (commanding files verdict command.now) (λ _. ended Status.Ok)
         (record { asked = L.asked lib.old; shelf = S.objects shelf.old; notes = T.written notes.old })
         (record { asked = L.asked lib.new; shelf = S.objects shelf.new; notes = T.written notes.new }) result }
-    ensures untold { L.files lib.old ≡ None → IsLost result → Rose (L.faults lib.old) (L.faults lib.new) }
-    ensures read { IsErrOf result Status.ReadFault → Rose (L.faults lib.old) (L.faults lib.new) }
-    ensures silent { IsSilent result → L.faults lib.new ≡ L.faults lib.old }
+    ensures library { LeavesLibrary (L.files lib.old) (L.files lib.new) (L.faults lib.old) (L.faults lib.new) result }
     ensures write { IsErrOf result Status.WriteFault
         → Rose (S.faults shelf.old) (S.faults shelf.new) ⊎ Rose (T.faults notes.old) (T.faults notes.new) }
     ensures silent_shelf { IsSilent result → S.faults shelf.new ≡ S.faults shelf.old }
@@ -163,9 +157,7 @@ fn try_run<L: Library, S: Shelf, T: Notes>(
         → Runs (outcome files verdict (map string_bytes words.now.items)) (λ _. ended Status.Ok)
         (record { asked = L.asked lib.old; shelf = S.objects shelf.old; notes = T.written notes.old })
         (record { asked = L.asked lib.new; shelf = S.objects shelf.new; notes = T.written notes.new }) result }
-    ensures untold { L.files lib.old ≡ None → IsLost result → Rose (L.faults lib.old) (L.faults lib.new) }
-    ensures read { IsErrOf result Status.ReadFault → Rose (L.faults lib.old) (L.faults lib.new) }
-    ensures silent { IsSilent result → L.faults lib.new ≡ L.faults lib.old }
+    ensures library { LeavesLibrary (L.files lib.old) (L.files lib.new) (L.faults lib.old) (L.faults lib.new) result }
     ensures write { IsErrOf result Status.WriteFault
         → Rose (S.faults shelf.old) (S.faults shelf.new) ⊎ Rose (T.faults notes.old) (T.faults notes.new) }
     ensures silent_shelf { IsSilent result → S.faults shelf.new ≡ S.faults shelf.old }

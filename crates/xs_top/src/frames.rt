@@ -1,11 +1,11 @@
-ghost use Rattle.std.specs.Prelude.{◌≡◌, ◌≤◌, ◌<◌, ◌+◌, ◌^◌, Some, IfOk, IsErrOf, string_bytes};
+ghost use Rattle.std.specs.Prelude.{◌≡◌, ◌<◌, ◌+◌, ◌^◌, Some, IfOk, IsErrOf, string_bytes};
 ghost use Rattle.std.specs.List.{range_with_len};
 ghost use Rattle.xs_direct.specs.Pictures.{AreHeld};
 ghost use Rattle.xs_meaning.specs.Drawings.{Pictures, ArePixels};
 ghost use Rattle.xs_meaning.specs.Expressions.{drawings_of, root_of};
-ghost use Rattle.xs_outside.specs.Told.{Rose};
-ghost use Rattle.xs_top.specs.Causes.{IsLost, IsSilent};
+ghost use Rattle.xs_top.specs.Causes.{IsLost};
 ghost use Rattle.xs_top.specs.Trace.{Outcome, Seen, with_shelf};
+ghost use Rattle.xs_top.specs.Leaves.{LeavesOutput};
 ghost use Rattle.xs_top.specs.Runs.{Runs};
 ghost use Rattle.xs_top.specs.Frames.{frame_name_of, frame_at};
 ghost use Rattle.xs_top.specs.Levels.{needed};
@@ -47,11 +47,9 @@ fn place_row<K: Film, S: Shelf>(
         → AreHeld drawings.now (drawings_of (root_of good.now row)) → (next : Outcome) (seen : Seen)
         → Runs (placing (frame_at good.now pictures base.now row) next) (λ _. next)
         (with_shelf seen (S.objects shelf.old)) (with_shelf seen (S.objects shelf.new)) result }
-    ensures later { S.faults shelf.old ≤ S.faults shelf.new }
+    ensures shelf { LeavesOutput (S.faults shelf.old) (S.faults shelf.new) result }
     ensures found { IsLost result → ⊥ }
     ensures read { IsErrOf result Status.ReadFault → ⊥ }
-    ensures write { IsErrOf result Status.WriteFault → Rose (S.faults shelf.old) (S.faults shelf.new) }
-    ensures silent { IsSilent result → S.faults shelf.new ≡ S.faults shelf.old }
 {
     let name = frame_name(alloc, base, row)?;
     let bytes = frame_direct(alloc, good, drawings, row)?;
@@ -74,11 +72,9 @@ pub(crate) fn place_rows<K: Film, S: Shelf>(
         → AreHeld drawings.now (needed good.now (range_with_len first rows)) → (next : Outcome) (seen : Seen)
         → Runs (placing_rows good.now pictures base.now (range_with_len first rows) next) (λ _. next)
         (with_shelf seen (S.objects shelf.old)) (with_shelf seen (S.objects shelf.new)) result }
-    ensures later { S.faults shelf.old ≤ S.faults shelf.new }
+    ensures shelf { LeavesOutput (S.faults shelf.old) (S.faults shelf.new) result }
     ensures found { IsLost result → ⊥ }
     ensures read { IsErrOf result Status.ReadFault → ⊥ }
-    ensures write { IsErrOf result Status.WriteFault → Rose (S.faults shelf.old) (S.faults shelf.new) }
-    ensures silent { IsSilent result → S.faults shelf.new ≡ S.faults shelf.old }
 {
     for i in 0..rows {
         place_row(alloc, good, drawings, first + i, base, shelf)?;

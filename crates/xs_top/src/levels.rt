@@ -1,12 +1,12 @@
-ghost use Rattle.std.specs.Prelude.{◌≡◌, ◌<◌, ◌≤◌, ◌+◌, ◌^◌, ℕ, List, [], ◌∷◌, ◌++◌, length, Option, None, Some, true, All, OnOk, IfOk, IsErrOf};
+ghost use Rattle.std.specs.Prelude.{◌≡◌, ◌<◌, ◌+◌, ◌^◌, ℕ, List, [], ◌∷◌, ◌++◌, length, Option, None, Some, true, All, OnOk, IfOk, IsErrOf};
 ghost use Rattle.std.specs.List.{range_with_len};
 ghost use Rattle.xs_check.specs.Good.{files_of};
 ghost use Rattle.xs_meaning.specs.Expressions.{drawings_of, root_of};
 ghost use Rattle.xs_schematic.specs.Once.{fresh};
-ghost use Rattle.xs_outside.specs.Told.{Rose};
 ghost use Rattle.xs_rawfile.specs.Level.{first_fault, raw_of};
-ghost use Rattle.xs_top.specs.Causes.{IsLost, IsSilent};
+ghost use Rattle.xs_top.specs.Causes.{IsLost};
 ghost use Rattle.xs_top.specs.Trace.{Outcome, Seen, with_asked};
+ghost use Rattle.xs_top.specs.Leaves.{LeavesLibrary};
 ghost use Rattle.xs_top.specs.Runs.{Runs};
 ghost use Rattle.xs_top.specs.Told.{Files};
 ghost use Rattle.xs_top.specs.Levels.{kind_of, raw_kind_of, palette_of, IsFileOf, needed, are_bytes, film_of, HasRoom, Holds};
@@ -76,11 +76,7 @@ fn fetch_drawing<L: Library>(
         (with_asked seen (L.asked lib.old)) (with_asked seen (L.asked lib.new)) result }
     ensures kind { IfOk result (λ g. g.kind ≡ kind) }
     ensures drawing { IfOk result (λ g. (files : Files) → L.files lib.old ≡ Some files → IsFileOf files good.now d g) }
-    ensures same { L.files lib.new ≡ L.files lib.old }
-    ensures later { L.faults lib.old ≤ L.faults lib.new }
-    ensures untold { L.files lib.old ≡ None → IsLost result → Rose (L.faults lib.old) (L.faults lib.new) }
-    ensures read { IsErrOf result Status.ReadFault → Rose (L.faults lib.old) (L.faults lib.new) }
-    ensures silent { IsSilent result → L.faults lib.new ≡ L.faults lib.old }
+    ensures library { LeavesLibrary (L.files lib.old) (L.files lib.new) (L.faults lib.old) (L.faults lib.new) result }
     ensures write { IsErrOf result Status.WriteFault → ⊥ }
 {
     let absent = Status::Level {
@@ -119,11 +115,7 @@ fn load_drawing<K: Film, L: Library>(
         (with_asked seen (L.asked lib.old)) (with_asked seen (L.asked lib.new)) result }
     ensures held { OnOk result ((known : List ℕ) → Holds drawings.old known → Holds drawings.new (known ++ d ∷ [])) }
     ensures room { HasRoom good.now drawings.new }
-    ensures same { L.files lib.new ≡ L.files lib.old }
-    ensures later { L.faults lib.old ≤ L.faults lib.new }
-    ensures untold { L.files lib.old ≡ None → IsLost result → Rose (L.faults lib.old) (L.faults lib.new) }
-    ensures read { IsErrOf result Status.ReadFault → Rose (L.faults lib.old) (L.faults lib.new) }
-    ensures silent { IsSilent result → L.faults lib.new ≡ L.faults lib.old }
+    ensures library { LeavesLibrary (L.files lib.old) (L.files lib.new) (L.faults lib.old) (L.faults lib.new) result }
     ensures write { IsErrOf result Status.WriteFault → ⊥ }
 {
     let kind = good.kind(d);
@@ -149,11 +141,7 @@ fn load_if_new<K: Film, L: Library>(
         (with_asked seen (L.asked lib.old)) (with_asked seen (L.asked lib.new)) result }
     ensures held { OnOk result ((known : List ℕ) → Holds drawings.old known → Holds drawings.new (known ++ d ∷ [])) }
     ensures room { HasRoom good.now drawings.new }
-    ensures same { L.files lib.new ≡ L.files lib.old }
-    ensures later { L.faults lib.old ≤ L.faults lib.new }
-    ensures untold { L.files lib.old ≡ None → IsLost result → Rose (L.faults lib.old) (L.faults lib.new) }
-    ensures read { IsErrOf result Status.ReadFault → Rose (L.faults lib.old) (L.faults lib.new) }
-    ensures silent { IsSilent result → L.faults lib.new ≡ L.faults lib.old }
+    ensures library { LeavesLibrary (L.files lib.old) (L.files lib.new) (L.faults lib.old) (L.faults lib.new) result }
     ensures write { IsErrOf result Status.WriteFault → ⊥ }
 {
     if drawings.get(d).is_some() {
@@ -180,11 +168,7 @@ fn load_drawings<K: Film, L: Library>(
         (with_asked seen (L.asked lib.old)) (with_asked seen (L.asked lib.new)) result }
     ensures held { OnOk result ((known : List ℕ) → Holds drawings.old known → Holds drawings.new (known ++ numbers.now)) }
     ensures room { HasRoom good.now drawings.new }
-    ensures same { L.files lib.new ≡ L.files lib.old }
-    ensures later { L.faults lib.old ≤ L.faults lib.new }
-    ensures untold { L.files lib.old ≡ None → IsLost result → Rose (L.faults lib.old) (L.faults lib.new) }
-    ensures read { IsErrOf result Status.ReadFault → Rose (L.faults lib.old) (L.faults lib.new) }
-    ensures silent { IsSilent result → L.faults lib.new ≡ L.faults lib.old }
+    ensures library { LeavesLibrary (L.files lib.old) (L.files lib.new) (L.faults lib.old) (L.faults lib.new) result }
     ensures write { IsErrOf result Status.WriteFault → ⊥ }
 {
     for d in numbers {
@@ -210,11 +194,7 @@ fn load_row<K: Film, L: Library>(
     ensures held { OnOk result ((known : List ℕ) → Holds drawings.old known
         → Holds drawings.new (known ++ drawings_of (root_of good.now row))) }
     ensures room { HasRoom good.now drawings.new }
-    ensures same { L.files lib.new ≡ L.files lib.old }
-    ensures later { L.faults lib.old ≤ L.faults lib.new }
-    ensures untold { L.files lib.old ≡ None → IsLost result → Rose (L.faults lib.old) (L.faults lib.new) }
-    ensures read { IsErrOf result Status.ReadFault → Rose (L.faults lib.old) (L.faults lib.new) }
-    ensures silent { IsSilent result → L.faults lib.new ≡ L.faults lib.old }
+    ensures library { LeavesLibrary (L.files lib.old) (L.files lib.new) (L.faults lib.old) (L.faults lib.new) result }
     ensures write { IsErrOf result Status.WriteFault → ⊥ }
 {
     let numbers = row_drawings(alloc, good, row)?;
@@ -241,11 +221,7 @@ pub(crate) fn load_rows<K: Film, L: Library>(
     ensures held { OnOk result ((known : List ℕ) → Holds drawings.old known
         → Holds drawings.new (known ++ needed good.now (range_with_len first rows))) }
     ensures room { HasRoom good.now drawings.new }
-    ensures same { L.files lib.new ≡ L.files lib.old }
-    ensures later { L.faults lib.old ≤ L.faults lib.new }
-    ensures untold { L.files lib.old ≡ None → IsLost result → Rose (L.faults lib.old) (L.faults lib.new) }
-    ensures read { IsErrOf result Status.ReadFault → Rose (L.faults lib.old) (L.faults lib.new) }
-    ensures silent { IsSilent result → L.faults lib.new ≡ L.faults lib.old }
+    ensures library { LeavesLibrary (L.files lib.old) (L.files lib.new) (L.faults lib.old) (L.faults lib.new) result }
     ensures write { IsErrOf result Status.WriteFault → ⊥ }
 {
     for i in 0..rows {

@@ -1,8 +1,7 @@
-ghost use Rattle.std.specs.Prelude.{◌≡◌, ◌≤◌, ◌<◌, ◌+◌, ◌^◌, ◌⊎◌, [], List, ℕ, ◌++◌, Some, OnOk, IsErrOf, None};
+ghost use Rattle.std.specs.Prelude.{◌≡◌, ◌≤◌, ◌<◌, ◌+◌, ◌^◌, [], List, ℕ, ◌++◌, Some, OnOk};
 ghost use Rattle.std.specs.List.{range_with_len};
-ghost use Rattle.xs_outside.specs.Told.{Rose};
-ghost use Rattle.xs_top.specs.Causes.{IsLost, IsSilent};
 ghost use Rattle.xs_top.specs.Trace.{Outcome, Seen, with_asked, with_shelf};
+ghost use Rattle.xs_top.specs.Leaves.{LeavesLibrary, LeavesOutput};
 ghost use Rattle.xs_top.specs.Runs.{Runs};
 ghost use Rattle.xs_top.specs.Told.{Files};
 ghost use Rattle.xs_top.specs.Levels.{film_of, needed, HasRoom, Holds};
@@ -45,14 +44,8 @@ fn render_section<K: Film, L: Library, S: Shelf>(
     ensures held { OnOk result ((earlier : List ℕ) → Holds drawings.old (needed good.now earlier)
         → Holds drawings.new (needed good.now (earlier ++ range_with_len first rows))) }
     ensures room { HasRoom good.now drawings.new }
-    ensures same { L.files lib.new ≡ L.files lib.old }
-    ensures later { L.faults lib.old ≤ L.faults lib.new }
-    ensures later_shelf { S.faults shelf.old ≤ S.faults shelf.new }
-    ensures untold { L.files lib.old ≡ None → IsLost result → Rose (L.faults lib.old) (L.faults lib.new) }
-    ensures read { IsErrOf result Status.ReadFault → Rose (L.faults lib.old) (L.faults lib.new) }
-    ensures silent { IsSilent result → L.faults lib.new ≡ L.faults lib.old }
-    ensures write { IsErrOf result Status.WriteFault → Rose (S.faults shelf.old) (S.faults shelf.new) }
-    ensures silent_shelf { IsSilent result → S.faults shelf.new ≡ S.faults shelf.old }
+    ensures library { LeavesLibrary (L.files lib.old) (L.files lib.new) (L.faults lib.old) (L.faults lib.new) result }
+    ensures shelf { LeavesOutput (S.faults shelf.old) (S.faults shelf.new) result }
 {
     load_rows(alloc, good, first, rows, lib, drawings)?;
     place_rows(alloc, good, drawings, first, rows, base, shelf)?;
@@ -79,14 +72,8 @@ fn render_sections<K: Film, L: Library, S: Shelf>(
         → Runs (rendering_sections files good.now base.now [] (sections_of from to) next) (λ _. next)
         (with_shelf (with_asked seen (L.asked lib.old)) (S.objects shelf.old))
         (with_shelf (with_asked seen (L.asked lib.new)) (S.objects shelf.new)) result }
-    ensures same { L.files lib.new ≡ L.files lib.old }
-    ensures later { L.faults lib.old ≤ L.faults lib.new }
-    ensures later_shelf { S.faults shelf.old ≤ S.faults shelf.new }
-    ensures untold { L.files lib.old ≡ None → IsLost result → Rose (L.faults lib.old) (L.faults lib.new) }
-    ensures read { IsErrOf result Status.ReadFault → Rose (L.faults lib.old) (L.faults lib.new) }
-    ensures silent { IsSilent result → L.faults lib.new ≡ L.faults lib.old }
-    ensures write { IsErrOf result Status.WriteFault → Rose (S.faults shelf.old) (S.faults shelf.new) }
-    ensures silent_shelf { IsSilent result → S.faults shelf.new ≡ S.faults shelf.old }
+    ensures library { LeavesLibrary (L.files lib.old) (L.files lib.new) (L.faults lib.old) (L.faults lib.new) result }
+    ensures shelf { LeavesOutput (S.faults shelf.old) (S.faults shelf.new) result }
 {
     let sections = (to - from) / SECTION + 1;
     for section in 0..sections {
@@ -114,14 +101,8 @@ pub(crate) fn render_rows<K: Film, L: Library, S: Shelf>(
         → Runs (rendering_sections files good.now base.now [] (sections_of from to) next) (λ _. next)
         (with_shelf (with_asked seen (L.asked lib.old)) (S.objects shelf.old))
         (with_shelf (with_asked seen (L.asked lib.new)) (S.objects shelf.new)) result }
-    ensures same { L.files lib.new ≡ L.files lib.old }
-    ensures later { L.faults lib.old ≤ L.faults lib.new }
-    ensures later_shelf { S.faults shelf.old ≤ S.faults shelf.new }
-    ensures untold { L.files lib.old ≡ None → IsLost result → Rose (L.faults lib.old) (L.faults lib.new) }
-    ensures read { IsErrOf result Status.ReadFault → Rose (L.faults lib.old) (L.faults lib.new) }
-    ensures silent { IsSilent result → L.faults lib.new ≡ L.faults lib.old }
-    ensures write { IsErrOf result Status.WriteFault → Rose (S.faults shelf.old) (S.faults shelf.new) }
-    ensures silent_shelf { IsSilent result → S.faults shelf.new ≡ S.faults shelf.old }
+    ensures library { LeavesLibrary (L.files lib.old) (L.files lib.new) (L.faults lib.old) (L.faults lib.new) result }
+    ensures shelf { LeavesOutput (S.faults shelf.old) (S.faults shelf.new) result }
 {
     let palettes = palettes(alloc, good)?;
     let mut drawings: Drawings<K> = Drawings::new(alloc, good.drawings(), palettes)?;

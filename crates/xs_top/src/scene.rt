@@ -1,10 +1,10 @@
-ghost use Rattle.std.specs.Prelude.{◌≡◌, ◌≤◌, ◌⊎◌, ℕ, List, Option, Some, None, Ok, false, true, IfErr, IsErrOf};
-ghost use Rattle.xs_outside.specs.Told.{Rose};
+ghost use Rattle.std.specs.Prelude.{◌≡◌, Some, Ok, IsErrOf};
 ghost use Rattle.xs_check.specs.Passes.{Checking};
 ghost use Rattle.xs_scene.specs.Records.{SceneRecord};
 ghost use Rattle.xs_scene_json.specs.SceneText.{scene_of};
-ghost use Rattle.xs_top.specs.Causes.{IsLost, IsSilent};
+ghost use Rattle.xs_top.specs.Causes.{IsLost};
 ghost use Rattle.xs_top.specs.Trace.{Outcome, Seen, with_asked};
+ghost use Rattle.xs_top.specs.Leaves.{LeavesLibrary};
 ghost use Rattle.xs_top.specs.Runs.{Runs};
 ghost use Rattle.xs_top.specs.Scenes.{ReadsScene};
 ghost use Rattle.xs_top.specs.Told.{Files, Verdict, IsVerdict};
@@ -30,11 +30,7 @@ pub(crate) fn load_scene<L: Library>(
     ensures told { (files : Files) → L.files lib.old ≡ Some files → (verdict : Verdict) → IsVerdict files verdict
         → (next : SceneRecord → Outcome) (seen : Seen) → Runs (loading_scene files verdict name.now next) next
         (with_asked seen (L.asked lib.old)) (with_asked seen (L.asked lib.new)) result }
-    ensures same { L.files lib.new ≡ L.files lib.old }
-    ensures later { L.faults lib.old ≤ L.faults lib.new }
-    ensures untold { L.files lib.old ≡ None → IsLost result → Rose (L.faults lib.old) (L.faults lib.new) }
-    ensures read { IsErrOf result Status.ReadFault → Rose (L.faults lib.old) (L.faults lib.new) }
-    ensures silent { IsSilent result → L.faults lib.new ≡ L.faults lib.old }
+    ensures library { LeavesLibrary (L.files lib.old) (L.files lib.new) (L.faults lib.old) (L.faults lib.new) result }
     ensures write { IsErrOf result Status.WriteFault → ⊥ }
 {
     let absent = refusal(alloc, SceneCode::NoScene);

@@ -1,7 +1,7 @@
-ghost use Rattle.std.specs.Prelude.{◌≡◌, ◌≤◌, ◌⊎◌, false, true, [], List, ℕ, None, Some, Err, length, IfOk, IfErr, IfSome, IsErrOf};
-ghost use Rattle.xs_outside.specs.Told.{Rose};
-ghost use Rattle.xs_top.specs.Causes.{IsLost, IsSilent, is_of_outside};
+ghost use Rattle.std.specs.Prelude.{◌≡◌, false, true, [], List, ℕ, Some, Err, IfOk, IsErrOf};
+ghost use Rattle.xs_top.specs.Causes.{IsLost, is_of_outside};
 ghost use Rattle.xs_top.specs.Trace.{Outcome, Seen, puts, with_asked, with_shelf, with_notes};
+ghost use Rattle.xs_top.specs.Leaves.{LeavesLibrary, LeavesOutput};
 ghost use Rattle.xs_top.specs.Runs.{Runs, is_broken};
 ghost use Rattle.xs_top.specs.Told.{Files};
 ghost use Rattle.xs_top.specs.Outcome.{asking, placing, noting};
@@ -28,13 +28,8 @@ pub(crate) fn ask<L: Library>(
         (with_asked seen (L.asked lib.old)) (with_asked seen (L.asked lib.new)) result }
     ensures bytes { IfOk result (λ bytes. (files : Files) → L.files lib.old ≡ Some files
         → files name.now ≡ Some bytes.items) }
-    ensures same { L.files lib.new ≡ L.files lib.old }
-    ensures later { L.faults lib.old ≤ L.faults lib.new }
-    ensures read { IsErrOf result Status.ReadFault → Rose (L.faults lib.old) (L.faults lib.new) }
-    ensures silent { IsSilent result → L.faults lib.new ≡ L.faults lib.old }
+    ensures library { LeavesLibrary (L.files lib.old) (L.files lib.new) (L.faults lib.old) (L.faults lib.new) result }
     ensures write { IsErrOf result Status.WriteFault → ⊥ }
-    ensures untold { L.files lib.old ≡ None → IfErr result
-        (λ status. (status ≡ Status.Memory) ⊎ Rose (L.faults lib.old) (L.faults lib.new)) }
 {
     match lib.get(alloc, name, limit) {
         Fetched::Bytes(bytes) => Ok(bytes),
@@ -55,11 +50,9 @@ pub(crate) fn place<S: Shelf>(
     ensures told { (next : Outcome) (seen : Seen) →
         Runs (placing (record { name = name.now; bytes = bytes.now }) next) (λ _. next)
         (with_shelf seen (S.objects shelf.old)) (with_shelf seen (S.objects shelf.new)) result }
-    ensures later { S.faults shelf.old ≤ S.faults shelf.new }
+    ensures shelf { LeavesOutput (S.faults shelf.old) (S.faults shelf.new) result }
     ensures found { IsLost result → ⊥ }
     ensures read { IsErrOf result Status.ReadFault → ⊥ }
-    ensures write { IsErrOf result Status.WriteFault → Rose (S.faults shelf.old) (S.faults shelf.new) }
-    ensures silent { IsSilent result → S.faults shelf.new ≡ S.faults shelf.old }
 {
     match shelf.put(alloc, name, bytes) {
         Put::Done => Ok(()),
@@ -73,11 +66,9 @@ pub(crate) fn note<T: Notes>(alloc: Global, notes: &mut T, line: &[u8]) -> Resul
     ensures told { (next : Outcome) → puts next.work ≡ [] → (seen : Seen) →
         Runs (noting line.now next) (λ _. next)
         (with_notes seen (T.written notes.old)) (with_notes seen (T.written notes.new)) result }
-    ensures later { T.faults notes.old ≤ T.faults notes.new }
+    ensures notes { LeavesOutput (T.faults notes.old) (T.faults notes.new) result }
     ensures found { IsLost result → ⊥ }
     ensures read { IsErrOf result Status.ReadFault → ⊥ }
-    ensures write { IsErrOf result Status.WriteFault → Rose (T.faults notes.old) (T.faults notes.new) }
-    ensures silent { IsSilent result → T.faults notes.new ≡ T.faults notes.old }
 {
     match notes.line(alloc, line) {
         Noted::Done => Ok(()),

@@ -47,9 +47,9 @@ loop-d-preserved g c =
       held = λ known holds.
           holds_step c.load_if_new.new.drawings known ds i within (c.in_ok-load_if_new.ensures.held (known ++ take i ds) (c.loop-d.invariant.held known holds));
       room = c.in_ok-load_if_new.ensures.room;
-      same = c.in_ok-load_if_new.ensures.same ∙ c.loop-d.invariant.same;
-      later = omega (arith, c.in_ok-load_if_new.ensures.later, c.loop-d.invariant.later);
-      silent = c.in_ok-load_if_new.ensures.silent tt ∙ c.loop-d.invariant.silent;
+      same = c.in_ok-load_if_new.ensures.library.same ∙ c.loop-d.invariant.same;
+      later = omega (arith, c.in_ok-load_if_new.ensures.library.later, c.loop-d.invariant.later);
+      silent = c.in_ok-load_if_new.ensures.library.silent tt ∙ c.loop-d.invariant.silent;
     }
 
 pub returns-clause-told : goal.returns-clause-told

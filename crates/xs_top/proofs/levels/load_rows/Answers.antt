@@ -51,9 +51,9 @@ loop-i-preserved g c =
       held = λ known holds.
           holds_row c.load_row.new.drawings c.args.good.now known c.args.first i (c.in_ok-load_row.ensures.held (known ++ needed c.args.good.now (range_with_len c.args.first i)) (c.loop-i.invariant.held known holds));
       room = c.in_ok-load_row.ensures.room;
-      same = c.in_ok-load_row.ensures.same ∙ c.loop-i.invariant.same;
-      later = omega (arith, c.in_ok-load_row.ensures.later, c.loop-i.invariant.later);
-      silent = c.in_ok-load_row.ensures.silent tt ∙ c.loop-i.invariant.silent;
+      same = c.in_ok-load_row.ensures.library.same ∙ c.loop-i.invariant.same;
+      later = omega (arith, c.in_ok-load_row.ensures.library.later, c.loop-i.invariant.later);
+      silent = c.in_ok-load_row.ensures.library.silent tt ∙ c.loop-i.invariant.silent;
     }
 
 pub returns-clause-told : goal.returns-clause-told

@@ -52,11 +52,11 @@ loop-section-preserved g c =
           let held = rw c.min-rows.ensures at (c.in_ok-render_section.ensures.held (rows_before c.args.from c.args.to i) (c.loop-section.invariant.held holds)) in
           rw (rows_before_more c.args.from c.args.to i) held;
       room = c.in_ok-render_section.ensures.room;
-      same = c.in_ok-render_section.ensures.same ∙ c.loop-section.invariant.same;
-      later = omega (arith, c.in_ok-render_section.ensures.later, c.loop-section.invariant.later);
-      silent = c.in_ok-render_section.ensures.silent tt ∙ c.loop-section.invariant.silent;
-      later_shelf = omega (arith, c.in_ok-render_section.ensures.later_shelf, c.loop-section.invariant.later_shelf);
-      silent_shelf = c.in_ok-render_section.ensures.silent_shelf tt ∙ c.loop-section.invariant.silent_shelf;
+      same = c.in_ok-render_section.ensures.library.same ∙ c.loop-section.invariant.same;
+      later = omega (arith, c.in_ok-render_section.ensures.library.later, c.loop-section.invariant.later);
+      silent = c.in_ok-render_section.ensures.library.silent tt ∙ c.loop-section.invariant.silent;
+      later_shelf = omega (arith, c.in_ok-render_section.ensures.shelf.later, c.loop-section.invariant.later_shelf);
+      silent_shelf = c.in_ok-render_section.ensures.shelf.silent tt ∙ c.loop-section.invariant.silent_shelf;
     }
 
 pub returns-clause-told : goal.returns-clause-told
