@@ -18,6 +18,7 @@ use xs_check::GoodScene;
 use xs_outside::{Library, Shelf};
 use xs_pixel::Film;
 use xs_rawfile::Drawings;
+use xs_rawfile::laws::files_without_fault_hold_drawings;
 use xs_scene::Name;
 
 /// How many rows a section has; the last one may have fewer.
@@ -54,6 +55,7 @@ fn render_section<K: Film, L: Library, S: Shelf>(
     ensures write { IsErrOf result Status.WriteFault → Rose (S.faults shelf.old) (S.faults shelf.new) }
     ensures silent_shelf { IsSilent result → S.faults shelf.new ≡ S.faults shelf.old }
 {
+    files_without_fault_hold_drawings();
     load_rows(alloc, good, first, rows, lib, drawings)?;
     place_rows(alloc, good, drawings, first, rows, base, shelf)?;
     Ok(())
