@@ -2,7 +2,6 @@ pub mod Parts
 pub mod Answered
 pub mod Wholes
 pub mod OneOutcome
-pub mod SceneTexts
 pub mod LevelCodes
 pub mod Verdicts
 pub mod Listings

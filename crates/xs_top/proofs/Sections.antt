@@ -16,10 +16,9 @@ use Rattle.xs_pixel.specs.Rows.{pixels}
 use Rattle.xs_rawfile.specs.declared.drawing.RawKind.{RawKind}
 use Rattle.xs_rawfile.specs.declared.drawing.RawKind.TheVariants as raw_kind
 use Rattle.xs_rawfile.specs.Held.{Held, held, content_of}
-use Rattle.xs_rawfile.specs.Level.{first_fault}
-use Rattle.xs_rawfile.specs.Raw.{Raw, Fills}
+use Rattle.xs_rawfile.specs.Level.{raw_of, first_fault}
+use Rattle.xs_rawfile.specs.Raw.{Raw, IsRaw, Fills}
 use Rattle.xs_rawfile.specs.declared.fault.LevelCode.{LevelCode}
-use Rattle.xs_rawfile.proofs.Faults.{holds_raw}
 use Rattle.xs_scene.specs.declared.level.Kind.{Kind}
 use Rattle.xs_scene.specs.Records.{SceneRecord}
 use Rattle.xs_check.specs.Good.{files_of}
@@ -45,35 +44,36 @@ both_true : (a b : Bool) → (a && b) ≡ true → (a ≡ true) × (b ≡ true)
 both_true true b e = (refl, e)
 both_true false b e = absurd cc
 
-each_byte : (xs : List ℕ) → are_bytes xs ≡ true → Each1 (λ b. b ≤ 255) xs
+each_byte : (xs : List ℕ) → are_bytes xs ≡ true → Each1 (λ b. b < 256) xs
 each_byte [] e = tt
 each_byte (x ∷ xs) e =
     let both = both_true (nat_lt x 256) (are_bytes xs) e in
     (grind (arith, nat_tests, both.0), each_byte xs both.1)
 
-each_drop : {A : Type 0} (P : A → Type 0) (n : ℕ) (xs : List A) → Each1 P xs → Each1 P (drop n xs)
-each_drop P zero xs each = each
-each_drop P (suc n) [] each = tt
-each_drop P (suc n) (x ∷ xs) each = each_drop P n xs each.1
-
 no_fault : (fault : Option LevelCode) → is_none fault ≡ true → fault ≡ None
 no_fault None e = refl
 no_fault (Some code) e = absurd cc
 
-picture_holds : (palettes : List (List Channels)) (kind : Kind) (bytes : List ℕ) (t : Bool) → (are_bytes bytes && is_none (first_fault (raw_kind_of kind) bytes)) ≡ t → IfSome (picture_in palettes kind bytes) (λ q. HoldsPixels q.content)
-picture_holds palettes kind bytes true e =
+-- a file without a fault holds a drawing
+abbrev pub FilesHold : Type 0
+FilesHold =
+    (kind : RawKind) (bytes : List ℕ) → Each1 (λ b. b < 256) bytes → first_fault kind bytes ≡ None
+    → IsRaw (raw_of kind bytes)
+
+picture_holds : FilesHold → (palettes : List (List Channels)) (kind : Kind) (bytes : List ℕ) (t : Bool) → (are_bytes bytes && is_none (first_fault (raw_kind_of kind) bytes)) ≡ t → IfSome (picture_in palettes kind bytes) (λ q. HoldsPixels q.content)
+picture_holds hold palettes kind bytes true e =
     let both = both_true (are_bytes bytes) _ e in
-    let raw = holds_raw (raw_kind_of kind) bytes (each_drop _ 21 bytes (each_byte bytes both.0)) (no_fault _ both.1) in
+    let raw = hold (raw_kind_of kind) bytes (each_byte bytes both.0) (no_fault _ both.1) in
     rw e (filled (raw_kind_of kind) (drop 21 bytes) raw.fills)
-picture_holds palettes kind bytes false e = rw e tt
+picture_holds hold palettes kind bytes false e = rw e tt
 
-file_holds : (palettes : List (List Channels)) (kind : Kind) (file : Option (List ℕ)) → IfSome (option_and_then (picture_in palettes kind) file) (λ q. HoldsPixels q.content)
-file_holds palettes kind None = tt
-file_holds palettes kind (Some bytes) = picture_holds palettes kind bytes _ refl
+file_holds : FilesHold → (palettes : List (List Channels)) (kind : Kind) (file : Option (List ℕ)) → IfSome (option_and_then (picture_in palettes kind) file) (λ q. HoldsPixels q.content)
+file_holds hold palettes kind None = tt
+file_holds hold palettes kind (Some bytes) = picture_holds hold palettes kind bytes _ refl
 
-pub pictures_hold : (files : Files) (s : SceneRecord) → ArePixels (pictures_of files s)
+pub pictures_hold : FilesHold → (files : Files) (s : SceneRecord) → ArePixels (pictures_of files s)
 unfolding pictures_of
-pictures_hold files s d = file_holds (palettes_of s) (kind_of s d) (files (file_of s d))
+pictures_hold hold files s d = file_holds hold (palettes_of s) (kind_of s d) (files (file_of s d))
 
 -- ---- what is held
 

@@ -1,10 +1,11 @@
 -- What reading and checking a scene leaves to do.
-use Rattle.std.proofs.Common.{◌≡◌, List, ℕ, true, false, Option, Some, None, Ok, Err, refl, ap, inl, inr}
+use Rattle.std.proofs.Common.{◌≡◌, List, ℕ, Bool, true, false, Option, Some, None, Ok, Err, refl, ap, inl, inr}
 use Rattle.xs_json.specs.declared.fault.SceneFault.{SceneFault}
 use Rattle.xs_json.specs.declared.fault.FieldFault.{FieldFault}
 use Rattle.xs_json.specs.declared.fault.FieldFault.TheVariants as field
 use Rattle.xs_json.specs.Reading.{Reading}
 use Rattle.xs_scene.specs.Records.{SceneRecord}
+use Rattle.xs_scene_json.specs.Faults.{is_text_code}
 use Rattle.xs_scene_json.specs.SceneText.{scene_of}
 use Rattle.xs_check.specs.Passes.{Checking}
 use Rattle.xs_json.specs.declared.code.SceneCode.{SceneCode}
@@ -45,26 +46,30 @@ scene_asked files verdict name next = refl
 abbrev pub CheckingCodes : Type 0
 CheckingCodes = (s : SceneRecord) (fault : SceneFault) → Checking s (Some fault) → is_of_checking fault.code ≡ true
 
--- no code of checking is one of a file that is not there or too long
-kept_code : (code : SceneCode) → is_of_checking code ≡ true → is_lost_scene code ≡ false
-kept_code scene_code.NotJson is = refl
-kept_code scene_code.UnknownKey is = refl
-kept_code scene_code.MissingKey is = refl
-kept_code scene_code.WrongKind is = refl
-kept_code scene_code.OutOfRange is = refl
-kept_code scene_code.NoSuchReference is = refl
-kept_code scene_code.Overlap is = refl
-kept_code scene_code.PegCycle is = refl
-kept_code scene_code.NodeCycle is = refl
-kept_code scene_code.SheetCycle is = refl
-kept_code scene_code.Placement is = refl
-kept_code scene_code.TooMany is = refl
-kept_code scene_code.NoScene is = absurd (cc)
-kept_code scene_code.TooLong is = absurd (cc)
-kept_code scene_code.CamerasDiffer is = refl
+-- the fault of a text has one of the codes of texts
+abbrev pub TextCodes : Type 0
+TextCodes = (bytes : List ℕ) (fault : SceneFault) → scene_of bytes ≡ Err fault → is_text_code fault.code ≡ true
+
+-- a code of some that are not those of a file that is not there or too long is none of the two
+not_lost : (among : SceneCode → Bool) → among scene_code.NoScene ≡ false → among scene_code.TooLong ≡ false → (code : SceneCode) → among code ≡ true → is_lost_scene code ≡ false
+not_lost among absent long scene_code.NotJson is = refl
+not_lost among absent long scene_code.UnknownKey is = refl
+not_lost among absent long scene_code.MissingKey is = refl
+not_lost among absent long scene_code.WrongKind is = refl
+not_lost among absent long scene_code.OutOfRange is = refl
+not_lost among absent long scene_code.NoSuchReference is = refl
+not_lost among absent long scene_code.Overlap is = refl
+not_lost among absent long scene_code.PegCycle is = refl
+not_lost among absent long scene_code.NodeCycle is = refl
+not_lost among absent long scene_code.SheetCycle is = refl
+not_lost among absent long scene_code.Placement is = refl
+not_lost among absent long scene_code.TooMany is = refl
+not_lost among absent long scene_code.NoScene is = absurd (cc)
+not_lost among absent long scene_code.TooLong is = absurd (cc)
+not_lost among absent long scene_code.CamerasDiffer is = refl
 
 -- a fault of reading or checking is never that there is no file, or one too long
-pub fault_kept : CheckingCodes → (reading : Reading SceneRecord) (fault : FieldFault) → ((f : SceneFault) → reading ≡ Err f → is_lost_scene f.code ≡ false) → ReadsScene (Err fault) reading → is_lost (scene_status fault) ≡ false
-fault_kept codes reading (field.Fault fault) kept (inl e) = kept fault e
-fault_kept codes reading (field.Fault fault) kept (inr found) = kept_code fault.code (codes found.0 fault found.2)
-fault_kept codes reading field.Memory kept reads = refl
+pub fault_kept : CheckingCodes → TextCodes → (bytes : List ℕ) (fault : FieldFault) → ReadsScene (Err fault) (scene_of bytes) → is_lost (scene_status fault) ≡ false
+fault_kept checking texts bytes (field.Fault fault) (inl e) = not_lost is_text_code refl refl fault.code (texts bytes fault e)
+fault_kept checking texts bytes (field.Fault fault) (inr found) = not_lost is_of_checking refl refl fault.code (checking found.0 fault found.2)
+fault_kept checking texts bytes field.Memory reads = refl

@@ -17,6 +17,7 @@ use xs_check::GoodScene;
 use xs_outside::{Library, Shelf};
 use xs_pixel::Film;
 use xs_rawfile::Drawings;
+use xs_rawfile::laws::files_without_fault_hold_drawings;
 use xs_scene::Name;
 
 /// How many rows a section has; the last one may have fewer.
@@ -47,6 +48,7 @@ fn render_section<K: Film, L: Library, S: Shelf>(
     ensures library { LeavesLibrary (L.files lib.old) (L.files lib.new) (L.faults lib.old) (L.faults lib.new) result }
     ensures shelf { LeavesOutput (S.faults shelf.old) (S.faults shelf.new) result }
 {
+    files_without_fault_hold_drawings();
     load_rows(alloc, good, first, rows, lib, drawings)?;
     place_rows(alloc, good, drawings, first, rows, base, shelf)?;
     Ok(())

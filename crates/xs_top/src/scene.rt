@@ -19,7 +19,7 @@ use xs_check::{GoodScene, check};
 use xs_json::{FieldFault, Path, SceneCode, SceneFault};
 use xs_outside::Library;
 use xs_scene::Name;
-use xs_scene_json::decode;
+use xs_scene_json::{decode, text_faults};
 
 /// Asks for the scene, reads and checks it.
 pub(crate) fn load_scene<L: Library>(
@@ -59,6 +59,7 @@ fn read_scene(alloc: Global, bytes: &[u8]) -> Result<GoodScene, Status>
 {
     checking_finds_one_thing();
     checking_finds_its_codes();
+    text_faults();
     match decode_and_check(alloc, bytes) {
         Ok(good) => Ok(good),
         Err(fault) => Err(status_of_scene(fault)),

@@ -1,8 +1,6 @@
 use Rattle.std.proofs.Common.{◌≡◌, false, sym, ap, ◌∙◌}
-use Rattle.xs_scene_json.specs.SceneText.{scene_of}
 use Rattle.xs_top.specs.Causes.{is_lost}
 use Rattle.xs_top.specs.Texts.{scene_status}
-use Rattle.xs_top.proofs.SceneTexts.{scene_kept}
 use Rattle.xs_top.proofs.Parts.{did_nothing}
 use Rattle.xs_top.proofs.Verdicts.{scene_read, scene_refused, fault_kept}
 use Rattle.xs_top.proofs.scene.read_scene.Goals as goal
@@ -17,6 +15,6 @@ returns-in-Err-clause-told c = λ verdict right next seen.
 
 pub returns-in-Err-clause-found : goal.returns-in-Err-clause-found
 returns-in-Err-clause-found c = λ lost.
-    let kept : is_lost (scene_status c.in-Err.fault) ≡ false = fault_kept c.checking_finds_its_codes.ensures (scene_of c.args.bytes.now) c.in-Err.fault (scene_kept c.args.bytes.now).at c.in-Err.ensures in
+    let kept : is_lost (scene_status c.in-Err.fault) ≡ false = fault_kept c.checking_finds_its_codes.ensures c.text_faults.ensures c.args.bytes.now c.in-Err.fault c.in-Err.ensures in
     let same : is_lost c.status_of_scene.result ≡ is_lost (scene_status c.in-Err.fault) = ap is_lost c.status_of_scene.ensures in
     cc (sym lost ∙ (same ∙ kept))
