@@ -1,9 +1,10 @@
 //! Laws of the outcome, in the words of its subject.
-ghost use Rattle.std.specs.Prelude.{◌≡◌, ◌≤◌, ◌+◌, ◌-◌, ◌++◌, ◌∷◌, [], ℕ, List, Option, None, map};
+ghost use Rattle.std.specs.Prelude.{◌≡◌, ◌≤◌, ◌+◌, ◌*◌, ◌-◌, ◌++◌, ◌∷◌, [], ℕ, List, Option, None, map};
 ghost use Rattle.xs_check.specs.Passes.{Checking};
 ghost use Rattle.xs_json.specs.declared.fault.SceneFault.{SceneFault};
 ghost use Rattle.xs_needs.specs.Fresh.{each_once};
 ghost use Rattle.xs_scene.specs.Records.{SceneRecord};
+ghost use Rattle.xs_top.specs.declared.TheConstants.{SCENE_LIMIT, DRAWING_LIMIT};
 ghost use Rattle.xs_top.specs.declared.status.Status.TheVariants as answers;
 ghost use Rattle.xs_top.specs.Trace.{Event, Ask, asks, puts, lines};
 ghost use Rattle.xs_top.specs.Told.{Files, Verdict, IsVerdict};
@@ -17,6 +18,12 @@ pub fn checking_finds_one_thing()
     ensures there { (s : SceneRecord) → (found : Option SceneFault) × Checking s found }
     ensures one { (s : SceneRecord) (found other : Option SceneFault) → Checking s found → Checking s other
         → found ≡ other }
+{}
+
+/// A scene file may have 16 MiB, and the file of a drawing what the largest drawing has.
+pub fn files_have_their_limits()
+    ensures scene { SCENE_LIMIT ≡ 16 * (1024 * 1024) }
+    ensures drawing { DRAWING_LIMIT ≡ 21 + 4 * (4096 * 4096) }
 {}
 
 /// Each verdict over a library gives the same outcome.
