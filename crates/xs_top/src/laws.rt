@@ -1,7 +1,8 @@
 //! Laws of the outcome, in the words of its subject.
-ghost use Rattle.std.specs.Prelude.{◌≡◌, ◌≤◌, ◌+◌, ◌-◌, ◌++◌, ◌∷◌, [], ℕ, List, None, map};
+ghost use Rattle.std.specs.Prelude.{◌≡◌, ◌≤◌, ◌+◌, ◌*◌, ◌-◌, ◌++◌, ◌∷◌, [], ℕ, List, None, map};
 ghost use Rattle.xs_schematic.specs.Once.{each_once};
 ghost use Rattle.xs_scene.specs.Records.{SceneRecord};
+ghost use Rattle.xs_top.specs.declared.TheConstants.{SCENE_LIMIT, DRAWING_LIMIT};
 ghost use Rattle.xs_top.specs.declared.status.Status.TheVariants as answers;
 ghost use Rattle.xs_top.specs.Trace.{Event, Ask, asks, puts, lines};
 ghost use Rattle.xs_top.specs.Told.{Files, Verdict, IsVerdict};
@@ -11,6 +12,12 @@ ghost use Rattle.xs_top.specs.Finished.{Says, AreAccepted, frames_of};
 ghost use Rattle.xs_top.specs.Outcome.{rendered_line, rendering, outcome};
 
 use xs_check::laws::checking_finds_one_thing;
+
+/// A scene file may have 16 MiB, and the file of a drawing what the largest drawing has.
+pub fn files_have_their_limits()
+    ensures scene { SCENE_LIMIT ≡ 16 * (1024 * 1024) }
+    ensures drawing { DRAWING_LIMIT ≡ 21 + 4 * (4096 * 4096) }
+{}
 
 /// Each verdict over a library gives the same outcome.
 pub fn every_verdict_gives_one_outcome()

@@ -18,7 +18,7 @@ mod texts;
 pub use command::run;
 pub use laws::{
     a_file_is_asked_for_behind_whole_sections, a_good_scene_is_rendered,
-    every_verdict_gives_one_outcome, only_a_good_scene_is_rendered,
+    every_verdict_gives_one_outcome, files_have_their_limits, only_a_good_scene_is_rendered,
 };
 pub use status::{Status, status_number};
 pub use texts::fault_text;
