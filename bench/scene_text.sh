@@ -2,10 +2,13 @@
 # Times decode and encode on scene texts of 1, 4 and 16 MiB, and prints a table with the most memory that
 # the program held, as a multiple of the text. The texts are bare cells without a blank, and scenes like
 # the sample walk, indented as json.dumps(.., indent=2) does it, and all on one line.
-# Run it at the top of the repository, after `rt ci xs_timing` or `rt run` in crates/xs_timing has
-# proved and built the program.
+# The program is proved and built first if need be.
 set -eu
-python3 - crates/xs_timing/out/xs_timing <<'END'
+top=$(cd "$(dirname "$0")/.." && pwd)
+work=$(mktemp -d)
+trap 'rm -rf "$work"' EXIT
+(cd "$top/crates/xs_timing" && rt run >"$work/build" 2>&1) || { cat "$work/build"; exit 1; }
+python3 - "$top/crates/xs_timing/out/xs_timing" <<'END'
 import subprocess, sys
 
 PROGRAM = sys.argv[1]

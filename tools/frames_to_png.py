@@ -15,8 +15,17 @@ import sys
 import pictures
 
 
+def count(text):
+    number = int(text)
+    if not 1 <= number <= 1000:
+        raise ValueError
+    return number
+
+
 def contact_sheet(frames, across, gap=4):
     width, height = frames[0].width, frames[0].height
+    if any((frame.width, frame.height) != (width, height) for frame in frames):
+        raise ValueError("the frames differ in size")
     down = (len(frames) + across - 1) // across
     whole = across * width + (across - 1) * gap
     blank = [0, 0, 0, 0]
@@ -35,11 +44,11 @@ def contact_sheet(frames, across, gap=4):
 
 def main():
     words = argparse.ArgumentParser(description="Makes pictures of raw frame files.")
-    words.add_argument("frames", nargs="+")
-    words.add_argument("--animation", metavar="PNG")
-    words.add_argument("--contact", metavar="PNG")
-    words.add_argument("--rate", type=int, default=24)
-    words.add_argument("--across", type=int, default=4)
+    words.add_argument("frames", nargs="+", metavar="FRAME.xfr")
+    words.add_argument("--animation", metavar="MOVIE.png", help="make one animated PNG")
+    words.add_argument("--contact", metavar="SHEET.png", help="make one picture with all frames side by side")
+    words.add_argument("--rate", type=count, default=24, metavar="N", help="frames a second of the animation, 24 by default")
+    words.add_argument("--across", type=count, default=4, metavar="N", help="frames in a row of the contact sheet, 4 by default")
     given = words.parse_args()
     frames = [pictures.read_frame(path) for path in given.frames]
     if given.animation:

@@ -33,9 +33,10 @@ def cm32_row(row):
 
 def main():
     words = argparse.ArgumentParser(description="Makes a raw level file of a PNG picture.")
-    words.add_argument("picture")
-    words.add_argument("level")
-    words.add_argument("--at", nargs=2, type=int, default=[0, 0], metavar=("X", "Y"))
+    words.add_argument("picture", metavar="PICTURE.png")
+    words.add_argument("level", metavar="DRAWING.xrl")
+    words.add_argument("--at", nargs=2, type=int, default=[0, 0], metavar=("X", "Y"),
+                       help="the place of the lower left pixel, 0 0 by default")
     words.add_argument("--cm32", action="store_true", help="red is the ink, green the paint, blue the tone")
     given = words.parse_args()
     picture = pictures.read_png(given.picture)

@@ -1,6 +1,6 @@
-//! A walk over the nodes of a graph. It labels them so that none links to one with a greater label, and that two
-//! have the same label where paths lead from each to the other. Of the labels nothing is proved: what is told by
-//! them is tested first.
+//! A walk over the nodes of a graph, which numbers its strongly connected components by the path-based algorithm:
+//! no node links to one with a greater label, and two have the same label where paths lead from each to the other.
+//! Of the labels nothing is proved: what is told by them is tested first.
 use std::alloc::{AllocError, Global};
 use xs_pixel::List;
 

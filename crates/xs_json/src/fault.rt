@@ -16,7 +16,9 @@ pub struct SceneFault {
 /// Why a field could not be read.
 #[derive(Debug, Drop)]
 pub enum FieldFault {
+    /// The text has a fault there.
     Fault(SceneFault),
+    /// There was no memory.
     Memory,
 }
 

@@ -1,5 +1,6 @@
-//! The fields of a JSON text, read by their kind: each reader gives the field, or exactly its first
-//! fault with the path of the place where it is.
+//! The fields of a scene text, read by their kind: each reader gives the field, or exactly its first
+//! fault with the path of the place where it is. The keys of scene texts and the codes of all faults of
+//! scenes stand here too.
 #![tactic(auto)]
 
 mod code;

@@ -33,7 +33,7 @@ keeping styles f style = f style || (nat_lt style 4096 && not (is_listed styles 
 abbrev pub pixel_of : Style → Channels
 pixel_of style = premultiplied style.r style.g style.b style.a
 
--- the pixel of a style as the palette is written: style 0 and a lacking one are clear
+-- the pixel of a style as the palette is written: style 0 and one that it lacks are clear
 unfoldable pub as_written : ColoursRecord → Colouring
 as_written c = style_of (written c.styles)
 
@@ -46,8 +46,8 @@ key_at c row style = latest (λ k. k.row) (filter (λ k. k.style == style && nat
 abbrev pub keyed : Option StyleKeyRecord → Style → Style
 keyed key style = option_map_or (λ k. k.to) key style
 
--- the pixel of a style at a row under dropped styles: style 0, a dropped one and a lacking one are
--- clear, another is what its key sets it to, or is as written
+-- the pixel of a style at a row under dropped styles: style 0, a dropped one and one that the palette
+-- lacks are clear, another is what its key sets it to, or is as written
 unfoldable pub style_at : ColoursRecord → ℕ → Dropped → Colouring
 style_at c row f style =
     if style == 0 || f style

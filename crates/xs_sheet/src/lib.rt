@@ -1,5 +1,6 @@
 //! What an exposure sheet says of one row: what a column shows, and where a peg is. Both go through
-//! their lists from the start, and take no memory.
+//! their lists from the start, and take no memory. They are the plain bodies with which the searches of
+//! xs_index are compared, and of which these use how one exposure and two keys are read.
 #![tactic(auto)]
 
 pub mod cells;

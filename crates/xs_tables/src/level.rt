@@ -50,12 +50,14 @@ fn read_text(alloc: Global, bytes: &[u8], kind: RawKind) -> io::Result<String> {
     }
 }
 
+/// The drawing of a file, or its first fault: the file's name and the kind.
 pub fn read_file<R: Files + AllocGlobal>(rt: &R, words: &str) -> io::Result<String> {
     let (file, kind) = words.split_once(' ').unwrap_or((words, ""));
     let bytes = fs::read(rt, file)?;
     read_text(rt.alloc(), &bytes, kind_of(kind))
 }
 
+/// The same of the front parts of a file, from no byte up to all but one.
 pub fn read_cuts<R: Files + AllocGlobal>(rt: &R, words: &str) -> io::Result<String> {
     let (file, kind) = words.split_once(' ').unwrap_or((words, ""));
     let bytes = fs::read(rt, file)?;

@@ -7,17 +7,18 @@
 //! - `with FILE PART`: as `check`, of the file with the part in place of its `@`
 //! - `many FILE FIRST COUNT PIECE`: as `with`, where the part is so many copies of the piece, with a number
 //!   that counts up from FIRST in place of `#`
-//! - `show FILE`: the canonical text of the scene
-//! - `level FILE KIND`: the fields of the drawing, or the code of its first fault
+//! - `show FILE`: the canonical text of the scene in its own format, unchecked, or its fault as at `check`
+//! - `level FILE KIND`: the fields of the drawing, or the code of its first fault; KIND is `cm32`, and any
+//!   other word is colour
 //! - `cuts FILE KIND`: the codes of the file cut to each shorter length
 //! - `files NAME=FILE ..`: the library has these files from here on, and no others; a name alone has the
 //!   file of that name, and `NAME=+N` so many zeros
 //! - `run WORDS`: what the words do: the status and its text, the names that were asked for, the files on
 //!   the shelf and the notes
-//! - `fail get N WORDS`, `fail put N WORDS`, `fail note N WORDS`: the same, where that call fails
+//! - `fail get N WORDS`, `fail put N WORDS`, `fail note N WORDS`: as `run`, where that call fails
 //! - `fail every get WORDS`, `fail every put WORDS`, `fail every note WORDS`: how many calls of this kind the
-//!   words make, and what is left where each in turn fails, on a line each
-//! - `quiet WORDS`: the same, over a library that tells nothing
+//!   words make, and what is left where each in turn fails, on a line each, and then where none does
+//! - `quiet WORDS`: as `run`, over a library that tells nothing, with its count of faults in place of the names
 #![tactic(auto)]
 
 mod faults;

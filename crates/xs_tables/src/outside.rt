@@ -20,6 +20,7 @@ pub struct Failing {
 }
 
 impl Failing {
+    /// No call fails.
     pub const NONE: Failing = Failing {
         get: 0,
         put: 0,
@@ -54,6 +55,7 @@ fn bytes_of<R: Files + AllocGlobal>(rt: &R, word: &str) -> io::Result<Vec<u8>> {
 }
 
 impl Outside {
+    /// No files.
     pub fn empty(alloc: Global) -> Outside {
         Outside {
             files: Vec::new(alloc),

@@ -32,6 +32,7 @@ fn checked_text(alloc: Global, text: &[u8]) -> io::Result<String> {
     }
 }
 
+/// What checking tells of the scene of a file.
 pub fn check_file<R: Files + AllocGlobal>(rt: &R, file: &str) -> io::Result<String> {
     let text = fs::read(rt, file)?;
     checked_text(rt.alloc(), &text)
@@ -47,6 +48,7 @@ fn is_no_json(alloc: Global, text: &[u8]) -> bool {
     }
 }
 
+/// How many front parts of a file, from no byte up to all but one, are no JSON.
 pub fn check_prefixes<R: Files + AllocGlobal>(rt: &R, file: &str) -> io::Result<String> {
     let text = fs::read(rt, file)?;
     let mut refused = 0u32;
@@ -58,6 +60,7 @@ pub fn check_prefixes<R: Files + AllocGlobal>(rt: &R, file: &str) -> io::Result<
     Ok(format!(in rt.alloc(); "{refused} of {} are no JSON", text.len())?)
 }
 
+/// What checking tells of so many lists, each in the one before.
 pub fn check_nested(alloc: Global, words: &str) -> io::Result<String> {
     let Ok(depth) = words.parse::<u16>() else {
         return Ok(String::from_str(alloc, "no number")?);
@@ -143,6 +146,7 @@ pub fn check_many<R: Files + AllocGlobal>(rt: &R, words: &str) -> io::Result<Str
     checked_text(rt.alloc(), whole.as_bytes())
 }
 
+/// The canonical text of the scene of a file, or its first fault.
 pub fn show_file<R: Files + AllocGlobal>(rt: &R, file: &str) -> io::Result<String> {
     let text = fs::read(rt, file)?;
     let scene = match decode(rt.alloc(), &text) {

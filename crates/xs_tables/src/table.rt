@@ -11,6 +11,7 @@ pub struct Table {
 }
 
 impl Table {
+    /// No files yet.
     pub fn new(alloc: Global) -> Table {
         Table {
             outside: Outside::empty(alloc),

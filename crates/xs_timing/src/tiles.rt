@@ -28,10 +28,12 @@ pub struct Random {
 }
 
 impl Random {
+    /// The numbers of a seed; an even seed is taken for the next odd one.
     pub fn new(seed: u32) -> Random {
         Random { state: seed | 1 }
     }
 
+    /// The next number, by three shifts.
     pub fn next(&mut self) -> u32 {
         self.state ^= self.state << 13;
         self.state ^= self.state >> 17;
