@@ -13,7 +13,6 @@ pub mod Offsets
 pub mod LeafOffsets
 pub mod StateLemmas
 pub mod TableLemmas
-pub mod Ranks
 pub mod ExtentLemmas
 pub mod Canonical
 pub mod SamePixels
