@@ -7,6 +7,8 @@
 //! - `with FILE PART`: as `check`, of the file with the part in place of its `@`
 //! - `many FILE FIRST COUNT PIECE`: as `with`, where the part is so many copies of the piece, with a number
 //!   that counts up from FIRST in place of `#`
+//! - `lists FILE`: of how many lists of three cells in rows 1 to 3 `with` says what a look at each pair says, by
+//!   the cell that first shares a row
 //! - `show FILE`: the canonical text of the scene in its own format, unchecked, or its fault as at `check`
 //! - `level FILE KIND`: the fields of the drawing, or the code of its first fault; KIND is `cm32`, and any
 //!   other word is colour
@@ -21,6 +23,7 @@
 //! - `quiet WORDS`: as `run`, over a library that tells nothing, with its count of faults in place of the names
 #![tactic(auto)]
 
+mod apart;
 mod faults;
 mod frame;
 mod hexadecimal;

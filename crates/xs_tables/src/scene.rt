@@ -24,7 +24,7 @@ fn fault_text(alloc: Global, fault: &SceneFault) -> io::Result<String> {
 }
 
 /// `good`, or the number of the first fault and its path.
-fn checked_text(alloc: Global, text: &[u8]) -> io::Result<String> {
+pub(crate) fn checked_text(alloc: Global, text: &[u8]) -> io::Result<String> {
     match checked(alloc, text) {
         Ok(_scene) => Ok(String::from_str(alloc, "good")?),
         Err(FieldFault::Fault(fault)) => fault_text(alloc, &fault),

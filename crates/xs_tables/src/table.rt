@@ -1,5 +1,5 @@
 use crate::outside::Outside;
-use crate::{level, render, scene};
+use crate::{apart, level, render, scene};
 use std::alloc::Global;
 use std::io;
 use std::rt::Files;
@@ -49,6 +49,7 @@ impl Table {
             "nested" => scene::check_nested(rt.alloc(), words),
             "with" => scene::check_with(rt, words),
             "many" => scene::check_many(rt, words),
+            "lists" => apart::check_lists(rt, words),
             "show" => scene::show_file(rt, words),
             "level" => level::read_file(rt, words),
             "cuts" => level::read_cuts(rt, words),
