@@ -1,5 +1,5 @@
 -- The files that a render puts on the shelf are frames of its rows from the first on.
-use Rattle.std.proofs.Common.{◌≡◌, ℕ, zero, suc, ◌+◌, ◌-◌, ◌≤◌, Bool, true, false, List, [], ◌∷◌, ◌++◌, length, map, nat_le, if◌then◌else◌, Option, Some, None, Ok, Err, ◌⊎◌, inl, inr, refl, sym, ap, ◌∙◌, append_assoc, arith}
+use Rattle.std.proofs.Common.{◌≡◌, ℕ, ◌+◌, ◌-◌, ◌≤◌, Bool, true, false, List, [], ◌∷◌, ◌++◌, length, map, nat_le, if◌then◌else◌, Option, Some, None, Ok, Err, ◌⊎◌, inl, inr, refl, sym, ap, ◌∙◌, arith}
 use Rattle.std.proofs.lemmas.Bool.Decides.{nat_tests}
 use Rattle.std.proofs.lemmas.List.{map-append}
 use Rattle.xs_outside.specs.declared.object.Object.{Object}
@@ -10,14 +10,13 @@ use Rattle.xs_rawfile.specs.declared.fault.LevelCode.{LevelCode}
 use Rattle.xs_meaning.specs.Drawings.{Pictures}
 use Rattle.xs_scene.specs.Records.{SceneRecord}
 use Rattle.xs_scene_json.specs.SceneText.{scene_of}
-use Rattle.xs_schematic.specs.Once.{fresh}
 use Rattle.xs_top.specs.declared.TheConstants.{SCENE_LIMIT}
 use Rattle.xs_top.specs.declared.status.Status.{Status}
 use Rattle.xs_top.specs.declared.status.Status.TheVariants as answers
-use Rattle.xs_top.specs.Trace.{Ask, Place, Line, puts, Outcome, ended, after}
+use Rattle.xs_top.specs.Trace.{Ask, Place, puts, Outcome, ended, after}
 use Rattle.xs_top.specs.Told.{Files, Verdict}
 use Rattle.xs_top.specs.Frames.{frame_at}
-use Rattle.xs_top.specs.Levels.{file_of, needed, pictures_of}
+use Rattle.xs_top.specs.Levels.{file_of, pictures_of}
 use Rattle.xs_top.specs.Rows.{rows_of, sections_of}
 use Rattle.xs_top.specs.Finished.{Says, frames_of}
 use Rattle.xs_top.specs.Outcome.{no_scene, found, asking, placing, noting, checked, decoded, accepted, loading_scene, loading_drawing, loading, placing_rows, rendering_sections, closing, rendering_scene, rendering}

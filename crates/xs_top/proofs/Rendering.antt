@@ -1,5 +1,5 @@
 -- What a render has done, without its steps.
-use Rattle.std.proofs.Common.{◌≡◌, ℕ, zero, suc, ◌+◌, ◌-◌, ◌≤◌, false, List, [], ◌∷◌, ◌++◌, take, drop, Option, Some, None, Ok, inl, inr, refl, sym, ap, ◌∙◌, subst, append_assoc}
+use Rattle.std.proofs.Common.{◌≡◌, ℕ, zero, suc, ◌≤◌, false, List, [], ◌++◌, take, drop, Option, Some, None, Ok, inl, inr, refl, sym, ap, ◌∙◌, subst, append_assoc}
 use Rattle.std.proofs.lemmas.List.{take-append-drop}
 use Rattle.xs_outside.specs.Told.{more}
 use Rattle.xs_outside.specs.declared.object.Object.{Object}
@@ -22,7 +22,7 @@ use Rattle.xs_top.proofs.Wholes.{front}
 use Rattle.xs_top.proofs.Commands.{command_obeyed}
 use Rattle.xs_top.proofs.Finishing.{scene_through, rendered_asks, rendered_puts, rendered_lines}
 use Rattle.xs_top.proofs.Accepting.{rendered_accepted}
-use Rattle.xs_top.proofs.Fronts.{IsFront, SaysNone, says_or_not, front_rendering}
+use Rattle.xs_top.proofs.Fronts.{says_or_not, front_rendering}
 
 checked_good : (fault : Option SceneFault) (next : Outcome) → (checked fault next).status ≡ answers.Ok → fault ≡ None
 checked_good None next e = refl
