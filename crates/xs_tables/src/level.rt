@@ -24,10 +24,10 @@ fn code_text(alloc: Global, code: LevelCode) -> io::Result<String> {
 }
 
 /// Whether the drawing is written as the bytes of which it was read.
-fn is_written_back(alloc: Global, drawing: &Drawing, bytes: &[u8]) -> bool {
+fn is_written_back(alloc: Global, drawing: &Drawing, bytes: &[u8]) -> io::Result<bool> {
     match write_level(alloc, drawing) {
-        Ok(written) => written.as_slice() == bytes,
-        Err(_) => false,
+        Ok(written) => Ok(written.as_slice() == bytes),
+        Err(_) => Err(io::Error::from(io::ErrorKind::OutOfMemory)),
     }
 }
 
@@ -39,12 +39,18 @@ fn drawing_text(alloc: Global, drawing: &Drawing) -> io::Result<String> {
     Ok(text)
 }
 
+/// The drawing, where it is written back as the bytes of which it was read.
+fn told_text(alloc: Global, drawing: &Drawing, bytes: &[u8]) -> io::Result<String> {
+    if is_written_back(alloc, drawing, bytes)? {
+        drawing_text(alloc, drawing)
+    } else {
+        Ok(String::from_str(alloc, "other bytes are written")?)
+    }
+}
+
 fn read_text(alloc: Global, bytes: &[u8], kind: RawKind) -> io::Result<String> {
     match read_level(alloc, bytes, kind) {
-        Ok(drawing) if !is_written_back(alloc, &drawing, bytes) => {
-            Ok(String::from_str(alloc, "other bytes are written")?)
-        }
-        Ok(drawing) => drawing_text(alloc, &drawing),
+        Ok(drawing) => told_text(alloc, &drawing, bytes),
         Err(LevelFault::Code(code)) => code_text(alloc, code),
         Err(LevelFault::Memory) => Err(io::Error::from(io::ErrorKind::OutOfMemory)),
     }
