@@ -48,18 +48,34 @@ fn hold_all(alloc: Global, drawings: &mut Drawings<Brand>) -> io::Result<()>
     Ok(())
 }
 
-/// Prints how long the frame of a row of four columns takes.
-pub fn time<R: Clock + Print>(rt: &R, alloc: Global) -> io::Result<()> {
-    let scene = scene(alloc)?;
+/// Four drawings that are held.
+fn held(alloc: Global) -> io::Result<Drawings<Brand>> {
     let palettes = List::of(Vec::new(alloc));
     let Ok(mut drawings) = Drawings::<Brand>::new(alloc, 4, palettes) else {
         return Err(failed());
     };
     hold_all(alloc, &mut drawings)?;
+    Ok(drawings)
+}
+
+/// Prints how long the frame of the first row takes.
+fn time_frame<R: Clock + Print>(
+    rt: &R,
+    alloc: Global,
+    scene: &GoodScene,
+    drawings: &Drawings<Brand>,
+) -> io::Result<()> {
     let start = Instant::now(rt)?;
-    let Ok(bytes) = frame_direct(alloc, &scene, &drawings, 1) else {
+    let Ok(bytes) = frame_direct(alloc, scene, drawings, 1) else {
         return Err(failed());
     };
     let micros = start.elapsed(rt)?.as_micros();
     println!(rt; "frame {} bytes {micros} microseconds", bytes.len())
+}
+
+/// Prints how long the frame of a row of four columns takes.
+pub fn time<R: Clock + Print>(rt: &R, alloc: Global) -> io::Result<()> {
+    let scene = scene(alloc)?;
+    let drawings = held(alloc)?;
+    time_frame(rt, alloc, &scene, &drawings)
 }
