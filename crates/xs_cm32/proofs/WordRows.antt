@@ -1,5 +1,5 @@
 -- Laws of a row of bytes seen as words. A place or a count of bytes is four times one of words.
-use Rattle.std.proofs.Common.{◌≡◌, ℕ, ◌-◌, ◌*◌, zero, suc, List, [], ◌∷◌, ◌++◌, length, take, drop, refl, ap, ◌∙◌, arith}
+use Rattle.std.proofs.Common.{◌≡◌, ℕ, ◌+◌, ◌-◌, ◌*◌, ◌≤◌, zero, suc, List, [], ◌∷◌, ◌++◌, length, take, drop, get_or, refl, ap, ◌∙◌, arith}
 use Rattle.std.specs.Simd.Lanes.{chunk, number_l}
 use Rattle.xs_cm32.specs.Rows.{words}
 
@@ -49,3 +49,17 @@ words-drop (suc (suc (suc (suc i)))) (suc k) (a ∷ b ∷ c ∷ d ∷ xs) at = w
 
 pub words-chunk : (i k m n : ℕ) (xs : List ℕ) → i ≡ 4 * k → m ≡ 4 * n → words (chunk i m xs) ≡ chunk k n (words xs)
 words-chunk i k m n xs at long = words-take m n (drop i xs) long ∙ ap (take n) (words-drop i k xs at)
+
+-- one word, from its four bytes
+pub word_of_chunk : (i k : ℕ) (xs : List ℕ) → i ≡ 4 * k → i + 4 ≤ length xs → words (chunk i 4 xs) ≡ get_or (words xs) k 0 ∷ []
+word_of_chunk zero zero (a ∷ b ∷ c ∷ d ∷ xs) at room = refl
+word_of_chunk zero (suc k) xs at room = absurd (omega arith)
+word_of_chunk (suc zero) k xs at room = absurd (omega arith)
+word_of_chunk (suc (suc zero)) k xs at room = absurd (omega arith)
+word_of_chunk (suc (suc (suc zero))) k xs at room = absurd (omega arith)
+word_of_chunk (suc (suc (suc (suc i)))) zero xs at room = absurd (omega arith)
+word_of_chunk (suc (suc (suc (suc i)))) (suc k) (a ∷ b ∷ c ∷ d ∷ xs) at room = word_of_chunk i k xs (omega arith) (omega arith)
+word_of_chunk i k [] at room = absurd (omega arith)
+word_of_chunk i k (a ∷ []) at room = absurd (omega arith)
+word_of_chunk i k (a ∷ b ∷ []) at room = absurd (omega arith)
+word_of_chunk i k (a ∷ b ∷ c ∷ []) at room = absurd (omega arith)

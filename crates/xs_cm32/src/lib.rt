@@ -3,7 +3,9 @@
 
 pub mod word;
 
-pub use word::{Cm32, colour, pure_tones, word_layout};
+pub use word::{
+    Cm32, colour, pure_tones, rows_of_bytes_are_rows_of_words, word_layout, words_have_pixels,
+};
 
 #[cfg(test)]
 mod tests;

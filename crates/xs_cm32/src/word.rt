@@ -1,8 +1,11 @@
-ghost use Rattle.std.specs.Prelude.{◌≡◌, ℕ, ◌<◌, ◌^◌};
-ghost use Rattle.xs_pixel.specs.Channels.{Channels};
+ghost use Rattle.std.specs.Prelude.{◌≡◌, ℕ, ◌+◌, ◌*◌, ◌<◌, ◌≤◌, ◌^◌, [], ◌∷◌, List, length, slice_index_or};
+ghost use Rattle.std.specs.Simd.Lanes.{chunk};
+ghost use Rattle.xs_pixel.specs.Channels.{Channels, IsPixel};
+ghost use Rattle.xs_cm32.specs.Rows.{words};
 ghost use Rattle.xs_cm32.specs.Word.{ink_of, paint_of, tone_of, word_of, mixed, colour_of};
 
 use std::marker::Model;
+use std::simd::prelude::*;
 use xs_pixel::Pixel;
 
 /// A pixel of a CM32 drawing, as its word: the number of the ink style in the high 12 bits, that of
@@ -21,6 +24,14 @@ impl Model for Cm32 {
 }
 
 impl Cm32 {
+    /// The word with number `place` of a row of bytes, lowest byte first.
+    pub fn from_row(row: &[u8], place: usize) -> Cm32
+        requires { 4 * place + 4 ≤ length row.now }
+        ensures { result ≡ slice_index_or (words row.now) place 0 }
+    {
+        word_at(row, 4 * place)
+    }
+
     /// The number of the ink style, below 4096.
     pub fn ink(self) -> u32
         ensures number { result ≡ ink_of self }
@@ -45,6 +56,14 @@ impl Cm32 {
     }
 }
 
+/// The word whose bytes begin at the byte `at` of a row.
+fn word_at(row: &[u8], at: usize) -> Cm32
+    requires { at + 4 ≤ length row.now }
+    ensures { words (chunk at 4 row.now) ≡ result ∷ [] }
+{
+    Cm32(u32::from_le_bytes(u8x4::from_slice(&row[at..]).to_array()))
+}
+
 /// The layout of a word: its three parts determine it, and every three parts in range have a word.
 pub fn word_layout()
     ensures determined { (w : ℕ) → word_of (ink_of w) (paint_of w) (tone_of w) ≡ w }
@@ -52,6 +71,17 @@ pub fn word_layout()
     ensures paint { (i p t : ℕ) → p < 4096 → t < 256 → paint_of (word_of i p t) ≡ p }
     ensures tone { (i p t : ℕ) → t < 256 → tone_of (word_of i p t) ≡ t }
     ensures fits { (i p t : ℕ) → i < 4096 → p < 4096 → t < 256 → word_of i p t < 2 ^ 32 }
+{}
+
+/// A row of bytes is a row of words, four bytes for each, and so are its parts.
+pub fn rows_of_bytes_are_rows_of_words()
+    ensures count { (n : ℕ) (row : List ℕ) → length row ≡ 4 * n → length (words row) ≡ n }
+    ensures part { (k n : ℕ) (row : List ℕ) → words (chunk (4 * k) (4 * n) row) ≡ chunk k n (words row) }
+{}
+
+/// The colour of each word with two pixels is a pixel.
+pub fn words_have_pixels()
+    ensures { (w : ℕ) (ink paint : Channels) → IsPixel ink → IsPixel paint → IsPixel (colour_of w ink paint) }
 {}
 
 /// Tone 0 gives the ink and tone 255 the paint.

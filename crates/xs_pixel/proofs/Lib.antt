@@ -1,3 +1,4 @@
+pub mod Boxes
 pub mod Products
 pub mod StaysPixel
 pub mod Rows

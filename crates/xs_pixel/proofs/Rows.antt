@@ -1,8 +1,6 @@
 -- Laws of a row of bytes seen as pixels. A place or a count of bytes is four times one of pixels.
 use Rattle.std.proofs.Common.{◌≡◌, ℕ, ◌+◌, ◌-◌, ◌*◌, ◌≤◌, zero, suc, List, [], ◌∷◌, ◌++◌, length, take, drop, get_or, refl, ap, ◌∙◌, arith}
-use Rattle.std.specs.Simd.Lanes.{Each1, zip2, chunk, put_chunk}
-use Rattle.std.proofs.Math.Seq.{take-add}
-use Rattle.std.proofs.lemmas.List.{length-take-le}
+use Rattle.std.specs.Simd.Lanes.{Each1, chunk, put_chunk}
 use Rattle.std.proofs.lemmas.Simd.{Each1-chunk}
 use Rattle.xs_pixel.specs.Channels.{Channels, channels}
 use Rattle.xs_pixel.specs.Rows.{pixels}
@@ -94,20 +92,9 @@ pixel_of_chunk i k (r ∷ []) d at room = absurd (omega arith)
 pixel_of_chunk i k (r ∷ g ∷ []) d at room = absurd (omega arith)
 pixel_of_chunk i k (r ∷ g ∷ b ∷ []) d at room = absurd (omega arith)
 
--- the step of a loop that goes through a row by m bytes
-pub take_more_pixels : (i k m : ℕ) (xs : List ℕ) → i ≡ 4 * k → i ≤ length xs → pixels (take (i + m) xs) ≡ pixels (take i xs) ++ pixels (chunk i m xs)
-take_more_pixels i k m xs at within =
-    ap pixels (take-add i m xs) ∙ pixels-append k (take i xs) (chunk i m xs) (length-take-le i xs within ∙ at)
-
 -- what holds of each pixel of a row holds of each in a part
 pub chunk_of_pixels : (P : Channels → Type 0) (i k m n : ℕ) (xs : List ℕ) → i ≡ 4 * k → m ≡ 4 * n → Each1 P (pixels xs) → Each1 P (pixels (chunk i m xs))
 chunk_of_pixels P i k m n xs at long each = rw (pixels-chunk i k m n xs at long) (Each1-chunk P k n (pixels xs) each)
-
-pub zip2-append : {A B C : Type 0} (f : A → B → C) (us more : List A) (vs rest : List B) → length us ≡ length vs → zip2 f (us ++ more) (vs ++ rest) ≡ zip2 f us vs ++ zip2 f more rest
-zip2-append f [] more [] rest same = refl
-zip2-append f [] more (v ∷ vs) rest same = absurd (omega arith)
-zip2-append f (u ∷ us) more [] rest same = absurd (omega arith)
-zip2-append f (u ∷ us) more (v ∷ vs) rest same = ap (λ ws. f u v ∷ ws) (zip2-append f us more vs rest (omega arith))
 
 -- what holds of each item of two lists holds of each of the two joined
 pub Each1-append : {A : Type 0} (P : A → Type 0) (us vs : List A) → Each1 P us → Each1 P vs → Each1 P (us ++ vs)

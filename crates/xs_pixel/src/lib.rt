@@ -2,6 +2,7 @@
 //! memory.
 #![tactic(auto)]
 
+pub mod block;
 pub mod film;
 pub mod laws;
 pub mod list;
@@ -10,6 +11,7 @@ pub mod operation;
 pub mod pixel;
 pub mod style;
 
+pub use block::mattes;
 pub use film::Film;
 pub use list::List;
 pub use memory::Memory;

@@ -6,13 +6,21 @@ use crate::pixel::Pixel;
 /// How a node composes its two inputs: the first is the upper pixel, the second the lower one.
 #[derive(Clone, Copy, Debug, PartialEq, Eq)]
 pub enum Op {
+    /// The upper pixel laid over the lower one.
     Over,
+    /// The sums of the channels, each at most 255.
     Add,
+    /// The lower colours less the upper ones, each at least 0, under the lower matte.
     Sub,
+    /// The products of the channels.
     Mult,
+    /// The lesser of each channel.
     Min,
+    /// The greater of each channel.
     Max,
+    /// The upper pixel where the lower one has matte.
     MatteIn,
+    /// The upper pixel where the lower one has no matte.
     MatteOut,
 }
 

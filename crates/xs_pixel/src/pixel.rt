@@ -1,9 +1,10 @@
-ghost use Rattle.std.specs.Prelude.{◌≡◌, ◌↔◌, [], ◌∷◌, IsSome, IfSome};
+ghost use Rattle.std.specs.Prelude.{◌≡◌, ◌+◌, ◌*◌, ◌≤◌, ◌↔◌, [], ◌∷◌, length, slice_index_or, IsSome, IfSome};
 ghost use Rattle.std.specs.Simd.Lanes.{Each1};
 ghost use Rattle.xs_pixel.specs.Rows.{pixels};
 
 use crate::operation::mul255;
 use std::marker::Model;
+use std::simd::prelude::*;
 
 /// A premultiplied pixel: red, green, blue and matte (opacity), each from 0 to 255, no colour above
 /// the matte.
@@ -58,6 +59,15 @@ impl Pixel {
     {
         let [r, g, b, m] = bytes;
         Pixel { r, g, b, m }
+    }
+
+    /// The pixel with number `place` of a row of bytes.
+    pub fn from_row(row: &[u8], place: usize) -> Pixel
+        requires room { 4 * place + 4 ≤ length row.now }
+        requires premultiplied { Each1 IsPixel (pixels row.now) }
+        ensures { result ≡ slice_index_or (pixels row.now) place clear }
+    {
+        Pixel::from_bytes(u8x4::from_slice(&row[4 * place..]).to_array())
     }
 
     /// Red, green, blue and matte.
