@@ -1,11 +1,5 @@
-use Rattle.std.proofs.Common.{◌≡◌, ℕ, ◌^◌, ◌<◌, ℤ, pos, negsuc, ◌≤ℤ◌, neg_ℤ, ◌↔◌, to_z, of_z, w32, FitsSigned, arith}
-use Rattle.std.proofs.lemmas.Int.{ints, to_z-of_z}
-use Rattle.xs_rect.specs.Area.{Area, area, Lies, Holds, IsCommonPart, ShareNoPoint, IsPart, IsWithin, IsNear}
-
--- a place near the origin fits an `i32`, with room to spare
-pub unwrapped : (z : ℤ) → neg_ℤ (pos (2 ^ 28)) ≤ℤ z → z ≤ℤ pos (2 ^ 28) → to_z w32 (of_z w32 z) ≡ z
-unwrapped (pos n) low high = to_z-of_z w32 (pos n) (record { sfits = omega (arith, ints) })
-unwrapped (negsuc n) low high = to_z-of_z w32 (negsuc n) (record { sfits = omega (arith, ints) })
+use Rattle.std.proofs.Common.{ℕ, ℤ, ◌↔◌}
+use Rattle.xs_rect.specs.Area.{Area, area, Lies, Holds, IsCommonPart, ShareNoPoint}
 
 -- an area across and up from the common places has the common points
 pub common_area : (a b : Area) (x y : ℤ) (w h : ℕ) → ((z : ℤ) → Lies x w z ↔ (Lies a.x a.w z × Lies b.x b.w z)) → ((z : ℤ) → Lies y h z ↔ (Lies a.y a.h z × Lies b.y b.h z)) → IsCommonPart a b (area x y w h)

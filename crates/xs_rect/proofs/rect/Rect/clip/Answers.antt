@@ -1,22 +1,22 @@
-use Rattle.std.proofs.Common.{arith}
-use Rattle.std.proofs.lemmas.Int.{ints}
-use Rattle.xs_rect.proofs.Areas.{unwrapped, common_area, apart_up}
+use Rattle.std.proofs.Common.{arith, w32}
+use Rattle.std.proofs.lemmas.Int.{ints, to_z-of_z}
+use Rattle.xs_rect.proofs.Areas.{common_area, apart_up}
 use Rattle.xs_rect.proofs.rect.Rect.clip.Goals as goal
 
 pub returns-in_err-y-clause-none : goal.returns-in_err-y-clause-none
 returns-in_err-y-clause-none c =
-    let ay = unwrapped c.self.inside.y (omega (arith, ints)) (omega (arith, ints)) in
-    let by = unwrapped c.o.inside.y (omega (arith, ints)) (omega (arith, ints)) in
+    let ay = to_z-of_z w32 c.self.inside.y (record { sfits = omega (arith, ints) }) in
+    let by = to_z-of_z w32 c.o.inside.y (record { sfits = omega (arith, ints) }) in
     rw (c.from_residual-in_err-y.ensures, ← c.self.view_is, ← c.o.view_is) (apart_up _ _ (rw (ay, by) at c.in_err-y.ensures.none))
 
 pub returns-clause-common : goal.returns-clause-common
 returns-clause-common c =
-    let ax = unwrapped c.self.inside.x (omega (arith, ints)) (omega (arith, ints)) in
-    let ay = unwrapped c.self.inside.y (omega (arith, ints)) (omega (arith, ints)) in
-    let bx = unwrapped c.o.inside.x (omega (arith, ints)) (omega (arith, ints)) in
-    let by = unwrapped c.o.inside.y (omega (arith, ints)) (omega (arith, ints)) in
-    let x = unwrapped c.in_ok-x.x (omega (arith, ints, c.in_ok-x.ensures.range)) (omega (arith, ints, c.in_ok-x.ensures.range)) in
-    let y = unwrapped c.in_ok-y.y (omega (arith, ints, c.in_ok-y.ensures.range)) (omega (arith, ints, c.in_ok-y.ensures.range)) in
+    let ax = to_z-of_z w32 c.self.inside.x (record { sfits = omega (arith, ints) }) in
+    let ay = to_z-of_z w32 c.self.inside.y (record { sfits = omega (arith, ints) }) in
+    let bx = to_z-of_z w32 c.o.inside.x (record { sfits = omega (arith, ints) }) in
+    let by = to_z-of_z w32 c.o.inside.y (record { sfits = omega (arith, ints) }) in
+    let x = to_z-of_z w32 c.in_ok-x.x (record { sfits = omega (arith, ints, c.in_ok-x.ensures.range) }) in
+    let y = to_z-of_z w32 c.in_ok-y.y (record { sfits = omega (arith, ints, c.in_ok-y.ensures.range) }) in
     rw (← c.self.view_is, ← c.o.view_is, x, y)
     (common_area _ _ _ _ _ _ (rw (ax, bx) at c.in_ok-x.ensures.common) (rw (ay, by) at c.in_ok-y.ensures.common))
 

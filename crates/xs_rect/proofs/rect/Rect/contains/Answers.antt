@@ -1,12 +1,11 @@
 use Rattle.std.proofs.Common.{w32, arith, rules}
 use Rattle.std.proofs.lemmas.Int.{ints, to_z-of_z}
-use Rattle.xs_rect.proofs.Areas.{unwrapped}
 use Rattle.xs_rect.proofs.rect.Rect.contains.Goals as goal
 
 pub returns-then-lies : goal.returns-then-lies
 returns-then-lies c =
-    let ax = unwrapped c.self.inside.x (omega (arith, ints)) (omega (arith, ints)) in
-    let ay = unwrapped c.self.inside.y (omega (arith, ints)) (omega (arith, ints)) in
+    let ax = to_z-of_z w32 c.self.inside.x (record { sfits = omega (arith, ints) }) in
+    let ay = to_z-of_z w32 c.self.inside.y (record { sfits = omega (arith, ints) }) in
     let x = to_z-of_z w32 c.args.x c.ranges.x in
     let y = to_z-of_z w32 c.args.y c.ranges.y in
     let across = rw (ax, x) at c.if-lies.ensures in
