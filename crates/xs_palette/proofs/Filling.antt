@@ -6,7 +6,6 @@ use Rattle.std.proofs.lemmas.List.{get_or_past}
 use Rattle.std.proofs.lemmas.List.FromFn.{map-range_with_len_more, length-map-range_with_len, get_or-map-range_with_len}
 use Rattle.xs_pixel.specs.Channels.{Channels, clear, IsPixel}
 use Rattle.xs_pixel.specs.Rows.{pixels}
-use Rattle.xs_pixel.proofs.Rows.{pixels-append, Each1-append}
 use Rattle.xs_palette.specs.Styles.{style_of}
 use Rattle.xs_palette.specs.Table.{IsTable}
 use Rattle.xs_palette.proofs.LookUp.{style_of-past}
@@ -17,12 +16,15 @@ pub record Shows (styles : List Channels) (n : ℕ) (bytes : List ℕ) : Type 0 
   pub shown : pixels bytes ≡ map (style_of styles) (range_with_len 0 n)
   pub valid : Each1 IsPixel (pixels bytes)
 
+-- what holds of each item of two lists holds of each of the two joined
+Each1-append : {A : Type 0} (P : A → Type 0) (us vs : List A) → Each1 P us → Each1 P vs → Each1 P (us ++ vs)
+Each1-append P [] vs first second = second
+Each1-append P (u ∷ us) vs first second = (first.0, Each1-append P us vs first.1 second)
+
 -- the bytes of one more pixel
-pub shows_more : (styles : List Channels) (n : ℕ) (bytes more : List ℕ) (p : Channels) → Shows styles n bytes → length more ≡ 4 → pixels more ≡ p ∷ [] → p ≡ style_of styles n → IsPixel p → Shows styles (n + 1) (bytes ++ more)
-shows_more styles n bytes more p so_far four one is valid =
-    let joined : pixels (bytes ++ more) ≡ pixels bytes ++ (p ∷ []) =
-    pixels-append n bytes more so_far.count ∙ ap (λ ps. pixels bytes ++ ps) one
-    in
+pub shows_more : (styles : List Channels) (n : ℕ) (bytes more : List ℕ) (p : Channels) → Shows styles n bytes → pixels (bytes ++ more) ≡ pixels bytes ++ pixels more → length more ≡ 4 → pixels more ≡ p ∷ [] → p ≡ style_of styles n → IsPixel p → Shows styles (n + 1) (bytes ++ more)
+shows_more styles n bytes more p so_far parts four one is valid =
+    let joined : pixels (bytes ++ more) ≡ pixels bytes ++ (p ∷ []) = parts ∙ ap (λ ps. pixels bytes ++ ps) one in
     record {
       count = omega (arith, length-append bytes more, so_far.count);
       shown = joined ∙ (ap (λ ps. ps ++ (p ∷ [])) so_far.shown ∙ (ap (λ q. map (style_of styles) (range_with_len 0 n) ++ (q ∷ [])) is ∙ sym (map-range_with_len_more (style_of styles) 0 n n (omega arith))));

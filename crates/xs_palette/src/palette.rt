@@ -7,7 +7,7 @@ ghost use Rattle.xs_pixel.specs.Rows.{pixels};
 use crate::fault::PaletteFault;
 use std::alloc::Global;
 use std::marker::Model;
-use std::simd::prelude::*;
+use xs_pixel::laws::rows_of_bytes_are_rows_of_pixels;
 use xs_pixel::{Pixel, Style};
 
 /// The greatest number of styles in a palette.
@@ -17,7 +17,7 @@ pub const MOST_STYLES: usize = 4096;
 /// `style_of` looks one up.
 #[derive(Debug, Drop)]
 pub struct Palette {
-    // the pixels of its styles by number, and one clear pixel for all that lack
+    // the pixels of its styles by number, and one clear pixel for all numbers past them
     table: Vec<u8>,
     // the place of that clear pixel
     past: usize,
@@ -47,6 +47,7 @@ impl Palette {
         if styles.len() > MOST_STYLES {
             return Err(PaletteFault::TooMany);
         }
+        rows_of_bytes_are_rows_of_pixels();
         let mut table = Vec::with_capacity(alloc, 4 * (styles.len() + 1))?;
         for id in 0..styles.len() + 1 {
             table.extend_from_slice(&shown(styles, id).to_bytes())?;
@@ -57,12 +58,12 @@ impl Palette {
         })
     }
 
-    /// The pixel of a style: clear for style 0 and for one that the palette lacks.
+    /// The pixel of a style: clear for style 0 and for a number past the palette's last style.
     pub fn style(&self, id: u32) -> Pixel
         ensures { result ≡ style_of self.now id }
     {
-        let place = (id as usize).min(self.past);
-        Pixel::from_bytes(u8x4::from_slice(&self.table[4 * place..]).to_array())
+        rows_of_bytes_are_rows_of_pixels();
+        Pixel::from_row(&self.table, (id as usize).min(self.past))
     }
 
     /// The table in which a style is looked up: four bytes for each pixel. The pixel of a style is
@@ -75,6 +76,7 @@ impl Palette {
         ensures look_up { (id : ℕ)
             → slice_index_or self.now (min id (length self.now - 1)) clear ≡ style_of self.now id }
     {
+        rows_of_bytes_are_rows_of_pixels();
         self.table.as_slice()
     }
 }

@@ -95,8 +95,3 @@ pixel_of_chunk i k (r ∷ g ∷ b ∷ []) d at room = absurd (omega arith)
 -- what holds of each pixel of a row holds of each in a part
 pub chunk_of_pixels : (P : Channels → Type 0) (i k m n : ℕ) (xs : List ℕ) → i ≡ 4 * k → m ≡ 4 * n → Each1 P (pixels xs) → Each1 P (pixels (chunk i m xs))
 chunk_of_pixels P i k m n xs at long each = rw (pixels-chunk i k m n xs at long) (Each1-chunk P k n (pixels xs) each)
-
--- what holds of each item of two lists holds of each of the two joined
-pub Each1-append : {A : Type 0} (P : A → Type 0) (us vs : List A) → Each1 P us → Each1 P vs → Each1 P (us ++ vs)
-Each1-append P [] vs first second = second
-Each1-append P (u ∷ us) vs first second = (first.0, Each1-append P us vs first.1 second)

@@ -1,16 +1,8 @@
 -- Laws of bytes as pixels and back.
 use Rattle.std.proofs.Common.{◌≡◌, ℕ, zero, suc, ◌-◌, ◌*◌, List, [], ◌∷◌, length, replicate, refl, ap, arith}
-use Rattle.xs_pixel.specs.Channels.{Channels, IsPixel, clear}
+use Rattle.xs_pixel.specs.Channels.{IsPixel, clear}
 use Rattle.xs_pixel.specs.Rows.{pixels}
 use Rattle.xs_raster.specs.Bitmap.{bytes_of}
-
-pub pixels-bytes_of : (ps : List Channels) → pixels (bytes_of ps) ≡ ps
-pixels-bytes_of [] = refl
-pixels-bytes_of (p ∷ ps) = ap (λ rest. p ∷ rest) (pixels-bytes_of ps)
-
-pub length-bytes_of : (ps : List Channels) → length (bytes_of ps) ≡ 4 * length ps
-length-bytes_of [] = refl
-length-bytes_of (p ∷ ps) = let rest = length-bytes_of ps in omega arith
 
 pub bytes_of-pixels : (n : ℕ) (xs : List ℕ) → length xs ≡ 4 * n → bytes_of (pixels xs) ≡ xs
 bytes_of-pixels n [] whole = refl

@@ -9,7 +9,7 @@ ghost use Rattle.xs_raster.specs.Changes.{SetsRow, Pastes};
 use crate::tile::Tile;
 use std::alloc::{AllocError, Global};
 use std::marker::Model;
-use std::simd::prelude::*;
+use xs_pixel::laws::rows_of_bytes_are_rows_of_pixels;
 use xs_pixel::{Memory, Pixel};
 use xs_rect::Rect;
 
@@ -55,6 +55,7 @@ impl Raster {
         ensures area { result ≡ self.now.area }
         ensures size { length self.now.pixels ≡ result.w * result.h }
     {
+        rows_of_bytes_are_rows_of_pixels();
         self.rect
     }
 
@@ -65,6 +66,7 @@ impl Raster {
         ensures whole { length result.now ≡ 4 * length self.now.pixels }
         ensures premultiplied { Each1 IsPixel self.now.pixels }
     {
+        rows_of_bytes_are_rows_of_pixels();
         self.bytes.as_slice()
     }
 
@@ -83,7 +85,7 @@ impl Raster {
         requires { Holds self.now.area x y }
         ensures { result ≡ pixel_of self.now x y }
     {
-        Pixel::from_bytes(u8x4::from_slice(self.part(x, y, 1)).to_array())
+        Pixel::from_row(self.part(x, y, 1), 0)
     }
 
     /// Sets the pixels from the point (x, y) to the right to those of the bytes. Takes no memory.
@@ -96,6 +98,7 @@ impl Raster {
         ensures list { self.new ≡ bitmap self.old.area
             (put_chunk (place_of self.old.area x y) self.old.pixels (pixels bytes.now)) }
     {
+        rows_of_bytes_are_rows_of_pixels();
         let at = self.place(x, y);
         put_pixels(&mut self.bytes, at, bytes);
     }
@@ -130,6 +133,7 @@ impl Raster {
         requires across { IsPart x n self.now.area.x self.now.area.w }
         requires up { Lies self.now.area.y self.now.area.h y }
         ensures pixels { pixels result.now ≡ chunk (place_of self.now.area x y) n self.now.pixels }
+        ensures count { length (pixels result.now) ≡ n }
         ensures whole { length result.now ≡ 4 * n }
         ensures premultiplied { Each1 IsPixel (pixels result.now) }
     {
@@ -154,8 +158,10 @@ fn pixels_from(bytes: &[u8], at: usize, n: usize) -> &[u8]
     requires { 4 * (at + n) ≤ length bytes.now }
     ensures bytes { result.now ≡ chunk (4 * at) (4 * n) bytes.now }
     ensures pixels { pixels result.now ≡ chunk at n (pixels bytes.now) }
+    ensures count { length (pixels result.now) ≡ n }
     ensures whole { length result.now ≡ 4 * n }
 {
+    rows_of_bytes_are_rows_of_pixels();
     &bytes[4 * at..4 * (at + n)]
 }
 
@@ -165,6 +171,7 @@ fn put_pixels(bytes: &mut [u8], at: usize, row: &[u8])
     requires room { 4 * at + length row.now ≤ length bytes.old }
     ensures { pixels bytes.new ≡ put_chunk at (pixels bytes.old) (pixels row.now) }
 {
+    rows_of_bytes_are_rows_of_pixels();
     bytes[4 * at..4 * at + row.len()].copy_from_slice(row);
 }
 

@@ -1,7 +1,6 @@
-use Rattle.std.proofs.Common.{◌≡◌, ◌+◌, ◌-◌, ◌*◌, ◌/◌, length, ap, sym, ◌∙◌, arith, refl}
+use Rattle.std.proofs.Common.{◌≡◌, ◌+◌, ◌-◌, ◌*◌, ◌/◌, length, ap, sym, ◌∙◌, arith}
 use Rattle.std.proofs.lemmas.Simd.{put_chunk_is}
 use Rattle.xs_pixel.specs.Rows.{pixels}
-use Rattle.xs_pixel.proofs.Rows.{pixels-put_chunk}
 use Rattle.xs_raster.proofs.raster.put_pixels.Goals as goal
 
 pub returns : goal.returns
@@ -11,4 +10,4 @@ returns c =
     let size : from + length row - from ≡ length row = omega arith in
     rw (size, c.copy_from_slice.ensures.after)
     (ap pixels (sym (put_chunk_is from c.args.bytes.now row c.requires.room))
-    ∙ pixels-put_chunk from c.args.at (length row / 4) c.args.bytes.now row refl (omega arith))
+    ∙ c.rows_of_bytes_are_rows_of_pixels.ensures.written c.args.at (length row / 4) c.args.bytes.now row (omega arith))

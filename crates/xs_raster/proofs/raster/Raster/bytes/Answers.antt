@@ -1,5 +1,4 @@
 use Rattle.std.proofs.Common.{sym, ◌∙◌, ap, ◌*◌, ℕ}
-use Rattle.xs_pixel.proofs.Rows.{length-pixels}
 use Rattle.xs_raster.proofs.Bytes.{bytes_of-pixels}
 use Rattle.xs_raster.proofs.raster.Raster.bytes.Goals as goal
 
@@ -9,4 +8,4 @@ returns-clause-exact c =
 
 pub returns-clause-whole : goal.returns-clause-whole
 returns-clause-whole c =
-    rw (c.as_slice.ensures.value, ← c.self.view_is) (c.self.invariant.whole ∙ ap (λ (n : ℕ). 4 * n) (sym (length-pixels _ _ c.self.invariant.whole)))
+    rw (c.as_slice.ensures.value, ← c.self.view_is) (c.self.invariant.whole ∙ ap (λ (n : ℕ). 4 * n) (sym (c.rows_of_bytes_are_rows_of_pixels.ensures.count _ _ c.self.invariant.whole)))

@@ -1,14 +1,13 @@
 use Rattle.std.proofs.Common.{◌≡◌, pos, ◌+ℤ◌, w32, arith}
-use Rattle.std.proofs.lemmas.Int.{ints, to_z_pos}
-use Rattle.xs_rect.proofs.Areas.{unwrapped}
+use Rattle.std.proofs.lemmas.Int.{ints, to_z_pos, to_z-of_z, fits_signed_from_abs}
 use Rattle.xs_raster.proofs.Pasting.{pasted_none, pasted_more, pasted_all, pasted_apart}
 use Rattle.xs_raster.proofs.raster.Raster.paste.Goals as goal
 
 pub paste_row-requires-clause-up : goal.paste_row-requires-clause-up
 paste_row-requires-clause-up c =
     let i = to_z_pos w32 c.loop-i.i (omega arith) in
-    let low = unwrapped c.y.result (omega (arith, ints)) (omega (arith, ints)) in
-    let y = unwrapped (c.y.result +ℤ pos c.loop-i.i) (omega (arith, ints)) (omega (arith, ints)) in
+    let low = to_z-of_z w32 c.y.result (record { sfits = omega (arith, ints) }) in
+    let y = to_z-of_z w32 (c.y.result +ℤ pos c.loop-i.i) (fits_signed_from_abs w32 _ (omega (arith, ints))) in
     rw (low, i, y, c.y.ensures.value) (record { least = omega (arith, ints); below = omega (arith, ints) })
 
 pub paste_row-requires-clause-mine : goal.paste_row-requires-clause-mine
@@ -23,8 +22,8 @@ loop-i-init c = pasted_none c.in-Some.common _ _
 pub loop-i-preserved : goal.loop-i-preserved
 loop-i-preserved c =
     let i = to_z_pos w32 c.loop-i.i (omega arith) in
-    let low = unwrapped c.y.result (omega (arith, ints)) (omega (arith, ints)) in
-    let y = unwrapped (c.y.result +ℤ pos c.loop-i.i) (omega (arith, ints)) (omega (arith, ints)) in
+    let low = to_z-of_z w32 c.y.result (record { sfits = omega (arith, ints) }) in
+    let y = to_z-of_z w32 (c.y.result +ℤ pos c.loop-i.i) (fits_signed_from_abs w32 _ (omega (arith, ints))) in
     pasted_more c.in-Some.common c.loop-i.i _ _ _ _ (omega arith)
     (rw (← c.rect.ensures.area) c.in-Some.ensures.within.0)
     (rw (← c.rect-2.ensures.area) c.in-Some.ensures.within.1)

@@ -1,7 +1,6 @@
 use Rattle.std.proofs.Common.{w32, arith}
 use Rattle.std.proofs.lemmas.Int.{ints, to_z-of_z}
 use Rattle.xs_pixel.specs.Picture.{place_in_box}
-use Rattle.xs_rect.proofs.Areas.{unwrapped}
 use Rattle.xs_raster.proofs.Points.{place_fits}
 use Rattle.xs_raster.proofs.raster.Raster.place.Goals as goal
 
@@ -10,8 +9,8 @@ unfolding place_in_box
 returns-clause-value c =
     let x = to_z-of_z w32 c.args.x c.ranges.x in
     let y = to_z-of_z w32 c.args.y c.ranges.y in
-    let left = unwrapped c.x.result (omega (arith, ints)) (omega (arith, ints)) in
-    let low = unwrapped c.y.result (omega (arith, ints)) (omega (arith, ints)) in
+    let left = to_z-of_z w32 c.x.result (record { sfits = omega (arith, ints) }) in
+    let low = to_z-of_z w32 c.y.result (record { sfits = c.y.type_inv }) in
     let rows = rw (y, low) at c.abs_diff-rows.ensures in
     let columns = rw (x, left) at c.abs_diff-columns.ensures in
     rw (← c.self.view_is, rows, columns, c.w.ensures.value, c.x.ensures.value, c.y.ensures.value)

@@ -4,7 +4,6 @@ use Rattle.std.proofs.lemmas.List.{take_at}
 use Rattle.std.proofs.lemmas.Simd.{Each1-put_chunk}
 use Rattle.xs_pixel.specs.Channels.{IsPixel}
 use Rattle.xs_pixel.specs.Rows.{pixels}
-use Rattle.xs_pixel.proofs.Rows.{length-pixels}
 use Rattle.xs_raster.specs.Bitmap.{bitmap}
 use Rattle.xs_raster.proofs.Points.{place_fits, sets_row}
 use Rattle.xs_raster.proofs.raster.Raster.put_row.Goals as goal
@@ -38,5 +37,5 @@ returns-clause-list c =
 
 pub returns-clause-points : goal.returns-clause-points
 returns-clause-points c =
-    let long : length (pixels c.args.bytes.now) ≡ length c.args.bytes.now / 4 = length-pixels _ c.args.bytes.now (omega arith) in
-    rw (returns-clause-list c) (sets_row c.args.self.now c.args.x c.args.y (pixels c.args.bytes.now) (rw long c.requires.across) c.requires.up (rw (← c.self.view_is) (sym (length-pixels _ _ c.self.invariant.whole))))
+    let long : length (pixels c.args.bytes.now) ≡ length c.args.bytes.now / 4 = c.rows_of_bytes_are_rows_of_pixels.ensures.count _ c.args.bytes.now (omega arith) in
+    rw (returns-clause-list c) (sets_row c.args.self.now c.args.x c.args.y (pixels c.args.bytes.now) (rw long c.requires.across) c.requires.up (rw (← c.self.view_is) (sym (c.rows_of_bytes_are_rows_of_pixels.ensures.count _ _ c.self.invariant.whole))))
