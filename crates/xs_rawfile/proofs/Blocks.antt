@@ -6,9 +6,8 @@ use lib.Lanes.{mask_l}
 use Rattle.std.proofs.lemmas.Bool.Decides.{nat_tests}
 use Rattle.std.proofs.lemmas.List.{drop-drop}
 use Rattle.xs_pixel.specs.Channels.{Channels}
-use Rattle.xs_pixel.specs.Rows.{pixels}
-use Rattle.xs_pixel.proofs.Rows.{pixels-drop, pixels-chunk}
-use Rattle.xs_rawfile.specs.Pixels.{exceeds, mattes_of}
+use Rattle.xs_pixel.specs.Rows.{pixels, mattes_of}
+use Rattle.xs_rawfile.specs.Pixels.{exceeds}
 
 -- no colour exceeds the matte of a pixel where no bit is set for it
 pub none_exceeds : (xs : List ℕ) → mask_l (zip2 ltb (mattes_of xs) xs) ≡ 0 → Each1 (λ p. exceeds p ≡ false) (pixels xs)
@@ -33,9 +32,8 @@ search_passes (suc n) k (p ∷ ps) good =
     let next : k + suc n ≡ k + 1 + n = omega arith in rw (next, good.0) (search_passes n (k + 1) ps good.1)
 
 -- the search goes on after a block in which no colour exceeds its matte
-pub search_block : (xs : List ℕ) (p : ℕ) → Each1 (λ q. exceeds q ≡ false) (pixels (chunk (4 * p) 16 xs)) → position_from exceeds p (pixels (drop (4 * p) xs)) ≡ position_from exceeds (p + 4) (pixels (drop (4 * (p + 4)) xs))
-search_block xs p good =
-    let here = pixels-drop (4 * p) p xs refl in
-    let after = pixels-drop (4 * (p + 4)) (p + 4) xs refl in
-    let part = pixels-chunk (4 * p) p 16 4 xs refl refl in
-    rw (here, after, ← drop-drop 4 p (pixels xs)) (search_passes 4 p (drop p (pixels xs)) (rw part at good))
+pub search_block :
+    (xs : List ℕ) (p : ℕ) → ((k : ℕ) → pixels (drop (4 * k) xs) ≡ drop k (pixels xs)) → pixels (chunk (4 * p) 16 xs) ≡ chunk p 4 (pixels xs)
+    → Each1 (λ q. exceeds q ≡ false) (pixels (chunk (4 * p) 16 xs)) → position_from exceeds p (pixels (drop (4 * p) xs)) ≡ position_from exceeds (p + 4) (pixels (drop (4 * (p + 4)) xs))
+search_block xs p rest part good =
+    rw (rest p, rest (p + 4), ← drop-drop 4 p (pixels xs)) (search_passes 4 p (drop p (pixels xs)) (rw part at good))

@@ -3,6 +3,7 @@ use Rattle.std.proofs.Common.{◌≡◌, ℕ, ◌+◌, ◌*◌, ◌^◌, ◌<◌
 use Rattle.std.specs.Int.{cast_signed}
 use Rattle.std.specs.Option.{option_map}
 use Rattle.std.specs.Simd.Lanes.{Each1}
+use Rattle.std.proofs.lemmas.Bool.{not-false, and_parts, or_parts}
 use Rattle.std.proofs.lemmas.Bool.Decides.{nat_tests}
 use Rattle.std.proofs.lemmas.Int.{ints}
 use Rattle.std.proofs.lemmas.List.{length-drop}
@@ -10,11 +11,9 @@ use Rattle.std.proofs.lemmas.Nat.{mul-le}
 use Rattle.xs_rawfile.specs.declared.drawing.RawKind.{RawKind}
 use Rattle.xs_rawfile.specs.declared.drawing.RawKind.TheVariants.{Colour, Cm32}
 use Rattle.xs_rawfile.specs.declared.fault.LevelCode.{LevelCode}
-use Rattle.xs_rawfile.specs.Raw.{IsRaw, IsSide, IsPlace, Fills}
-use Rattle.xs_rawfile.specs.Tests.{is_side, is_place}
+use Rattle.xs_rawfile.specs.Raw.{IsRaw, IsSide, IsPlace, Fills, is_side, is_place}
 use Rattle.xs_rawfile.specs.Pixels.{unmultiplied_fault}
 use Rattle.xs_rawfile.specs.Level.{raw_of, number_at, first_of, first_fault, lacks_magic, has_unknown_kind, has_other_kind, has_wrong_side, has_wrong_place, has_wrong_length}
-use Rattle.xs_rawfile.proofs.Truths.{not_false, and_true, and_false, or_false}
 use Rattle.xs_rawfile.proofs.Scanning.{fills_from_none}
 
 -- where no code is given, the first test fails and no later one gives a code
@@ -24,11 +23,11 @@ none_given false code rest last h = (refl, h)
 
 pub side_from_test : (n : ℕ) → is_side n ≡ true → IsSide n
 side_from_test n h =
-    let both = and_true (nat_le 1 n) (nat_le n 4096) h in (grind (arith, nat_tests, both.0), grind (arith, nat_tests, both.1))
+    let both = and_parts (nat_le 1 n) (nat_le n 4096) h in (grind (arith, nat_tests, both.0), grind (arith, nat_tests, both.1))
 
 pub place_from_test : (z : ℤ) → is_place z ≡ true → IsPlace z
 place_from_test z h =
-    let both = and_true (int_le (neg_ℤ (pos 65536)) z) (int_le z (pos 65536)) h in (grind (arith, ints, both.0), grind (arith, ints, both.1))
+    let both = and_parts (int_le (neg_ℤ (pos 65536)) z) (int_le z (pos 65536)) h in (grind (arith, ints, both.0), grind (arith, ints, both.1))
 
 nothing_mapped : {A B : Type 0} (f : A → B) (o : Option A) → option_map f o ≡ None → o ≡ None
 nothing_mapped f None h = refl
@@ -42,21 +41,21 @@ fills_from_no_fault Cm32 bytes bound h = tt
 pub long_enough : (bytes : List ℕ) → has_wrong_length bytes ≡ false → (21 ≤ length bytes) × (length bytes ≡ 21 + 4 * (number_at bytes 13 * number_at bytes 17))
 unfolding has_wrong_length
 long_enough bytes h =
-    let parts = or_false (nat_lt (length bytes) 21) _ h in
-    (grind (arith, nat_tests, parts.0), grind (arith, nat_tests, not_false _ parts.1))
+    let parts = or_parts (nat_lt (length bytes) 21) _ h in
+    (grind (arith, nat_tests, parts.0), grind (arith, nat_tests, not-false _ parts.1))
 
 sides : (bytes : List ℕ) → 21 ≤ length bytes → has_wrong_side bytes ≡ false → IsSide (number_at bytes 13) × IsSide (number_at bytes 17)
 unfolding has_wrong_side
 sides bytes long h =
     let there : nat_le 21 (length bytes) ≡ true = grind (arith, nat_tests) in
-    let both = and_true _ _ (not_false _ (and_false _ _ h there)) in
+    let both = and_parts _ _ (not-false _ (rw there at h)) in
     (side_from_test _ both.0, side_from_test _ both.1)
 
 places : (bytes : List ℕ) → 21 ≤ length bytes → has_wrong_place bytes ≡ false → IsPlace (cast_signed w32 (number_at bytes 5)) × IsPlace (cast_signed w32 (number_at bytes 9))
 unfolding has_wrong_place
 places bytes long h =
     let there : nat_le 21 (length bytes) ≡ true = grind (arith, nat_tests) in
-    let both = and_true _ _ (not_false _ (and_false _ _ h there)) in
+    let both = and_parts _ _ (not-false _ (rw there at h)) in
     (place_from_test _ both.0, place_from_test _ both.1)
 
 -- the tests of a file without a fault fail

@@ -1,6 +1,7 @@
 -- What a drawing that is set changes.
-use Rattle.std.proofs.Common.{IfSome, ◌≡◌, ℕ, zero, suc, ◌<◌, Option, Some, None, List, [], ◌∷◌, length, replicate, slice_get, slice_set, get_or, IsSome, option_and_then, refl, ap, sym, subst, inl, inr, ◌⊎◌, arith}
+use Rattle.std.proofs.Common.{IfSome, ◌≡◌, ℕ, zero, suc, ◌<◌, Option, Some, None, List, [], ◌∷◌, length, slice_get, slice_set, get_or, IsSome, option_and_then, refl, ap, sym, subst, inl, inr, ◌⊎◌, arith}
 use Rattle.std.proofs.lemmas.Bool.{cases_eq}
+use Rattle.std.proofs.lemmas.Option.{slice_get_read}
 use Rattle.xs_pixel.specs.Channels.{Channels}
 use Rattle.xs_pixel.specs.Picture.{Picture}
 use Rattle.xs_rawfile.specs.declared.drawing.RawKind.{RawKind}
@@ -20,9 +21,6 @@ slice_get-set_other (z ∷ xs) zero (suc j) x other = refl
 slice_get-set_other (z ∷ xs) (suc i) zero x other = refl
 slice_get-set_other (z ∷ xs) (suc i) (suc j) x other = slice_get-set_other xs i j x (λ same. other (omega arith))
 
-some_same : {A : Type 0} {x y : A} → Some x ≡ Some y → x ≡ y
-some_same h = cc
-
 -- what is held after a set is the new drawing, or was held before
 pub held_after_set : (h : Held) (d e : ℕ) (g g' : Raw) (palette palette' : Option ℕ) → IsIn (held (slice_set h.slots d (Some (g, palette))) h.palettes) e g' palette'
     → ((d ≡ e) × (g ≡ g') × (palette ≡ palette')) ⊎ IsIn h e g' palette'
@@ -30,7 +28,7 @@ held_after_set h d e g g' palette palette' is =
     elim (cases_eq d e) [
       | inl same ↦
           let pair : Some (g, palette) ≡ Some (g', palette') = slice_get-set_same h.slots d (Some (g, palette)) (Some (g', palette')) (subst (λ (i : ℕ). slice_get (slice_set h.slots d (Some (g, palette))) i ≡ Some (Some (g', palette'))) (sym same) is) in
-          let both = some_same pair in inl (same, ap (λ (q : Raw × Option ℕ). q.0) both, ap (λ (q : Raw × Option ℕ). q.1) both)
+          let both : (g, palette) ≡ (g', palette') = cc in inl (same, ap (λ (q : Raw × Option ℕ). q.0) both, ap (λ (q : Raw × Option ℕ). q.1) both)
       | inr other ↦ inr (rw (slice_get-set_other h.slots d e (Some (g, palette)) other) at is)
     ]
 
@@ -72,18 +70,6 @@ remove_held pictures h d before = record {
   filmed = λ told tells e g palette is. before.filmed told tells e g palette (held_after_remove h d e g palette is);
 }
 
-none_in_empty : (n d : ℕ) (x : Raw × Option ℕ) → slice_get {X = Option (Raw × Option ℕ)} (replicate n None) d ≡ Some (Some x) → ⊥
-none_in_empty zero d x h = cc
-none_in_empty (suc n) zero x h = cc
-none_in_empty (suc n) (suc d) x h = none_in_empty n d x h
-
-pub nothing_held : (pictures : Option (ℕ → Option Picture)) (n : ℕ) (palettes : List (List Channels)) → IsHeld pictures (held (replicate n None) palettes)
-nothing_held pictures n palettes = record {
-  raw = λ d g palette is. absurd (none_in_empty n d (g, palette) is);
-  named = λ d g palette is. absurd (none_in_empty n d (g, palette) is);
-  filmed = λ told tells d g palette is. absurd (none_in_empty n d (g, palette) is);
-}
-
 -- the palette of a drawing that is held exists
 pub names_some : (palettes : List (List Channels)) (kind : RawKind) (palette : Option ℕ) → Names palettes kind palette → IfSome palette (λ n. n < length palettes)
 names_some palettes kind (Some n) names = names
@@ -95,13 +81,7 @@ held_in_range [] d h = absurd cc
 held_in_range (slot ∷ slots) zero h = omega arith
 held_in_range (slot ∷ slots) (suc d) h = let rest = held_in_range slots d h in omega arith
 
--- what is read at a place is there
-pub get_from_index : {A : Type 0} (xs : List A) (i : ℕ) (x : A) → i < length xs → x ≡ get_or xs i x → slice_get xs i ≡ Some x
-get_from_index [] i x within h = absurd (omega arith)
-get_from_index (y ∷ xs) zero x within h = ap Some (sym h)
-get_from_index (y ∷ xs) (suc i) x within h = get_from_index xs i x (omega arith) h
-
 -- what is read under the number of a drawing that is held lies there
 pub held_there : (slots : List (Option (Raw × Option ℕ))) (d : ℕ) (seen slot : Option (Raw × Option ℕ)) → IsSome (option_and_then (λ slot. slot) (slice_get slots d)) → seen ≡ get_or slots d seen → seen ≡ slot → slice_get slots d ≡ Some slot
 held_there slots d seen slot held h is =
-    subst (λ (found : Option (Raw × Option ℕ)). slice_get slots d ≡ Some found) is (get_from_index slots d seen (held_in_range slots d held) h)
+    subst (λ (found : Option (Raw × Option ℕ)). slice_get slots d ≡ Some found) is (slice_get_read slots (length slots) d seen refl (held_in_range slots d held) h)

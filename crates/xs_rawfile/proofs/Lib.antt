@@ -4,4 +4,3 @@ pub mod Faults
 pub mod Holding
 pub mod ReadBack
 pub mod Scanning
-pub mod Truths

@@ -1,17 +1,16 @@
 -- The file of each drawing is read back, and no other bytes are.
 use Rattle.std.proofs.Common.{◌≡◌, ℕ, ◌+◌, ◌*◌, ◌/◌, ◌%◌, ◌<◌, ◌≤◌, ℤ, pos, negsuc, neg_ℤ, true, false, not, ◌&&◌, nat_lt, nat_le, ◌==◌, int_le, None, List, [], ◌∷◌, ◌++◌, length, slice_index, w32, of_z, to_z, FitsSigned, refl, ap, sym, ◌∙◌, arith}
 use Rattle.std.specs.Simd.Lanes.{Each1}
+use Rattle.std.proofs.lemmas.Bool.{not-false, and_parts}
 use Rattle.std.proofs.lemmas.Bool.Decides.{nat_tests}
 use Rattle.std.proofs.lemmas.Int.{ints, to_z-of_z, of_z-to_z}
 use Rattle.xs_rawfile.specs.declared.drawing.RawKind.{RawKind}
 use Rattle.xs_rawfile.specs.declared.drawing.RawKind.TheVariants.{Colour, Cm32}
-use Rattle.xs_rawfile.specs.Raw.{Raw, raw, IsRaw, IsPlace, IsSide, Fills}
-use Rattle.xs_rawfile.specs.Tests.{is_side, is_place, kind_byte}
+use Rattle.xs_rawfile.specs.Raw.{Raw, raw, IsRaw, IsPlace, IsSide, Fills, is_side, is_place, kind_byte}
 use Rattle.xs_rawfile.specs.Pixels.{unmultiplied_fault}
 use Rattle.xs_rawfile.specs.Level.{magic, four_bytes, level_bytes, raw_of, first_fault, lacks_magic, has_unknown_kind, has_other_kind, has_wrong_side, has_wrong_place, has_wrong_length}
 use Rattle.xs_rawfile.proofs.Faults.{passes, long_enough}
 use Rattle.xs_rawfile.proofs.Scanning.{none_from_fills}
-use Rattle.xs_rawfile.proofs.Truths.{not_false, and_true, and_false}
 
 -- four bytes give the number back
 pub number_of_four : (n : ℕ) → n < 4294967296 → n % 256 + 256 * (n / 256 % 256) + 65536 * (n / 65536 % 256) + 16777216 * (n / 16777216 % 256) ≡ n
@@ -112,18 +111,18 @@ joined k k' xs xs' ys ys' ws ws' hs hs' rest ek ex ey ew eh = rw (ek, ex, ey, ew
 begins : (m0 m1 m2 m3 : ℕ) (rest : List ℕ) → lacks_magic (m0 ∷ m1 ∷ m2 ∷ m3 ∷ rest) ≡ false → (m0 ≡ 88) × (m1 ≡ 82) × (m2 ≡ 76) × (m3 ≡ 49)
 unfolding lacks_magic
 begins m0 m1 m2 m3 rest h =
-    let all : (88 == m0 && (82 == m1 && (76 == m2 && (49 == m3 && true)))) ≡ true = not_false _ h in
-    let a = and_true (88 == m0) (82 == m1 && (76 == m2 && (49 == m3 && true))) all in
-    let b = and_true (82 == m1) (76 == m2 && (49 == m3 && true)) a.1 in
-    let c = and_true (76 == m2) (49 == m3 && true) b.1 in
-    let d = and_true (49 == m3) true c.1 in
+    let all : (88 == m0 && (82 == m1 && (76 == m2 && (49 == m3 && true)))) ≡ true = not-false _ h in
+    let a = and_parts (88 == m0) (82 == m1 && (76 == m2 && (49 == m3 && true))) all in
+    let b = and_parts (82 == m1) (76 == m2 && (49 == m3 && true)) a.1 in
+    let c = and_parts (76 == m2) (49 == m3 && true) b.1 in
+    let d = and_parts (49 == m3) true c.1 in
     (grind (arith, nat_tests, a.0), grind (arith, nat_tests, b.0), grind (arith, nat_tests, c.0), grind (arith, nat_tests, d.0))
 
 kind_told : (kind : RawKind) (bytes : List ℕ) → 21 ≤ length bytes → has_other_kind kind bytes ≡ false → slice_index bytes 4 ≡ kind_byte kind
 unfolding has_other_kind
 kind_told kind bytes long h =
     let there : nat_lt 4 (length bytes) ≡ true = grind (arith, nat_tests) in
-    let same = not_false _ (and_false _ _ h there) in
+    let same = not-false _ (rw there at h) in
     grind (arith, nat_tests, same)
 
 -- a file without a fault is the file of the drawing that it holds

@@ -2,13 +2,13 @@
 use Rattle.std.proofs.Common.{◌≡◌, ℕ, ◌+◌, ◌*◌, ◌<◌, ◌≤◌, Bool, true, false, cond, ◌&&◌, nat_le, Option, Some, None, List, [], ◌∷◌, length, drop, get_or, Fits, w8, refl, ap, ◌∙◌, arith}
 use Rattle.std.specs.List.{position_from}
 use Rattle.std.specs.Simd.Lanes.{Each1}
+use Rattle.std.proofs.lemmas.Bool.{not-false, and_parts}
 use Rattle.std.proofs.lemmas.Bool.Decides.{nat_tests}
 use Rattle.std.proofs.lemmas.List.{drop-drop, get_or-drop, length-drop}
 use Rattle.std.proofs.lemmas.Simd.{Each1-from_get_or}
 use Rattle.xs_pixel.specs.Channels.{Channels, channels, IsPixel}
 use Rattle.xs_pixel.specs.Rows.{pixels}
 use Rattle.xs_rawfile.specs.Pixels.{exceeds}
-use Rattle.xs_rawfile.proofs.Truths.{not_false, and_true}
 
 -- a search that finds nothing passes its first item
 head_passes : (b : Bool) (k : ℕ) (rest : Option ℕ) → cond b (Some k) rest ≡ None → (b ≡ false) × (rest ≡ None)
@@ -34,8 +34,8 @@ pixels_short (r ∷ g ∷ b ∷ m ∷ xs) short = absurd (omega arith)
 -- a pixel is premultiplied where no colour exceeds its matte, which is a byte
 pub is_pixel : (p : Channels) → p.m ≤ 255 → exceeds p ≡ false → IsPixel p
 is_pixel p top h =
-    let all = and_true (nat_le p.r p.m) (nat_le p.g p.m && nat_le p.b p.m) (not_false _ h) in
-    let two = and_true (nat_le p.g p.m) (nat_le p.b p.m) all.1 in
+    let all = and_parts (nat_le p.r p.m) (nat_le p.g p.m && nat_le p.b p.m) (not-false _ h) in
+    let two = and_parts (nat_le p.g p.m) (nat_le p.b p.m) all.1 in
     record { red = grind (arith, nat_tests, all.0); green = grind (arith, nat_tests, two.0); blue = grind (arith, nat_tests, two.1); top = top }
 
 pub exceeds_none : (p : Channels) → IsPixel p → exceeds p ≡ false

@@ -6,8 +6,7 @@ use Rattle.xs_rawfile.specs.declared.fault.LevelCode.{LevelCode}
 use Rattle.xs_rawfile.specs.declared.fault.LevelCode.TheVariants.{Magic, Kind, KindDiffers, Size, Place, Length}
 use Rattle.xs_rawfile.specs.declared.fault.LevelFault.{LevelFault}
 use Rattle.xs_rawfile.specs.declared.fault.LevelFault.TheVariants.{Code, Memory}
-use Rattle.xs_rawfile.specs.Raw.{Raw, raw}
-use Rattle.xs_rawfile.specs.Tests.{is_side, is_place, kind_byte}
+use Rattle.xs_rawfile.specs.Raw.{Raw, raw, is_side, is_place, kind_byte}
 use Rattle.xs_rawfile.specs.Pixels.{unmultiplied_fault}
 
 -- the letters XRL1

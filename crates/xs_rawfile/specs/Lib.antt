@@ -4,4 +4,3 @@ pub mod Pixels
 pub mod Frame
 pub mod Held
 pub mod Level
-pub mod Tests

@@ -1,4 +1,4 @@
-use Rattle.std.specs.Prelude.{ℕ, Bool, ◌&&◌, not, nat_le, List, [], ◌∷◌, Option, None, option_map}
+use Rattle.std.specs.Prelude.{ℕ, Bool, ◌&&◌, not, nat_le, List, Option, None, option_map}
 use Rattle.std.specs.List.{position_from}
 use Rattle.xs_pixel.specs.Channels.{Channels}
 use Rattle.xs_pixel.specs.Rows.{pixels}
@@ -14,11 +14,6 @@ exceeds p = not (nat_le p.r p.m && (nat_le p.g p.m && nat_le p.b p.m))
 -- the number of the first pixel of which a colour exceeds the matte
 abbrev pub first_unmultiplied_of : List ℕ → Option ℕ
 first_unmultiplied_of bytes = position_from exceeds 0 (pixels bytes)
-
--- the matte of each pixel of a row of bytes in all four of its bytes
-abbrev pub mattes_of : List ℕ → List ℕ
-mattes_of (r ∷ g ∷ b ∷ m ∷ rest) = m ∷ m ∷ m ∷ m ∷ mattes_of rest
-mattes_of _ = []
 
 -- the fault of such a pixel, which a file of CM32 words doesn't have
 abbrev pub unmultiplied_fault : RawKind → List ℕ → Option LevelCode

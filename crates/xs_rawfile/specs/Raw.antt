@@ -1,4 +1,4 @@
-use Rattle.std.specs.Prelude.{◌≡◌, ℕ, ◌*◌, ◌≤◌, ℤ, pos, neg_ℤ, ◌≤ℤ◌, List, length}
+use Rattle.std.specs.Prelude.{◌≡◌, ℕ, ◌*◌, ◌≤◌, nat_le, ℤ, pos, neg_ℤ, ◌≤ℤ◌, int_le, Bool, ◌&&◌, List, length}
 use Rattle.std.specs.Simd.Lanes.{Each1}
 use Rattle.xs_pixel.specs.Channels.{IsPixel}
 use Rattle.xs_pixel.specs.Rows.{pixels}
@@ -22,9 +22,20 @@ raw x0 y0 w h kind bytes = record { x0 = x0; y0 = y0; w = w; h = h; kind = kind;
 abbrev pub IsSide : ℕ → Type 0
 IsSide n = (1 ≤ n) × (n ≤ 4096)
 
+abbrev pub is_side : ℕ → Bool
+is_side n = nat_le 1 n && nat_le n 4096
+
 -- a place that the corner may have along an axis
 abbrev pub IsPlace : ℤ → Type 0
 IsPlace z = (neg_ℤ (pos 65536) ≤ℤ z) × (z ≤ℤ pos 65536)
+
+abbrev pub is_place : ℤ → Bool
+is_place z = int_le (neg_ℤ (pos 65536)) z && int_le z (pos 65536)
+
+-- the byte that stands for a kind
+abbrev pub kind_byte : RawKind → ℕ
+kind_byte Colour = 0
+kind_byte Cm32 = 1
 
 -- bytes that may stand for pixels: no colour exceeds its matte; every CM32 word will do
 abbrev pub Fills : RawKind → List ℕ → Type 0

@@ -4,13 +4,13 @@ ghost use Rattle.xs_rawfile.specs.Held.{plain_picture, words_of};
 ghost use Rattle.std.specs.Simd.Lanes.{Each1};
 ghost use Rattle.xs_pixel.specs.Channels.{IsPixel};
 ghost use Rattle.xs_pixel.specs.Rows.{pixels};
-ghost use Rattle.xs_rawfile.specs.Tests.{is_side, is_place, kind_byte};
-ghost use Rattle.xs_rawfile.specs.Raw.{Raw, raw, IsRaw, IsSide, IsPlace, Fills};
+ghost use Rattle.xs_rawfile.specs.Raw.{is_side, is_place, kind_byte, Raw, raw, IsRaw, IsSide, IsPlace, Fills};
 
 use crate::premultiplied::first_unmultiplied;
-use crate::shown::{pixel_under, word_at};
+use crate::shown::pixel_under;
 use std::marker::Model;
 use xs_cm32::Cm32;
+use xs_pixel::laws::points_of_a_box_have_places;
 use xs_pixel::{List, Pixel};
 
 /// The longest side of a drawing, in pixels.
@@ -19,10 +19,12 @@ pub const LONGEST_SIDE: u32 = 4096;
 /// How far the corner of a drawing may lie from the origin along each axis, in pixels.
 pub const FARTHEST: i32 = 65_536;
 
-/// What the four bytes of a pixel are in a file: red, green, blue and matte, or a CM32 word.
+/// What the four bytes of a pixel are in a file.
 #[derive(Clone, Copy, Debug, PartialEq, Eq)]
 pub enum RawKind {
+    /// Premultiplied pixels: red, green, blue and matte.
     Colour,
+    /// CM32 words, the lowest byte first.
     Cm32,
 }
 
@@ -131,6 +133,7 @@ impl Drawing {
         ensures within { IsSome result ↔ (is_in_box self.now.x0 self.now.y0 self.now.w self.now.h x y ≡ true) }
         ensures room { IfSome result (λ at. 4 * at + 4 ≤ length self.now.bytes) }
     {
+        points_of_a_box_have_places();
         if self.contains(x, y) {
             let row = y.abs_diff(self.y0) as usize;
             let column = x.abs_diff(self.x0) as usize;
@@ -164,7 +167,7 @@ impl Drawing {
     {
         match self.kind {
             RawKind::Colour => None,
-            RawKind::Cm32 => Some(word_at(self.bytes.items(), at)),
+            RawKind::Cm32 => Some(Cm32::from_row(self.bytes.items(), at)),
         }
     }
 

@@ -3,9 +3,11 @@ ghost use Rattle.std.specs.List.{position_from};
 ghost use Rattle.std.specs.Simd.Lanes.{Each1};
 ghost use Rattle.xs_pixel.specs.Channels.{channels};
 ghost use Rattle.xs_pixel.specs.Rows.{pixels};
-ghost use Rattle.xs_rawfile.specs.Pixels.{exceeds, first_unmultiplied_of, mattes_of};
+ghost use Rattle.xs_rawfile.specs.Pixels.{exceeds, first_unmultiplied_of};
 
 use std::simd::prelude::*;
+use xs_pixel::laws::rows_of_bytes_are_rows_of_pixels;
+use xs_pixel::mattes;
 
 /// The number of the first pixel of which a colour exceeds the matte.
 pub(crate) fn first_unmultiplied(bytes: &[u8]) -> Option<usize>
@@ -28,6 +30,7 @@ fn passed_by_blocks(bytes: &[u8]) -> usize
     ensures within { 4 * result ≤ length bytes.now }
     ensures passed { first_unmultiplied_of bytes.now ≡ position_from exceeds result (pixels (drop (4 * result) bytes.now)) }
 {
+    rows_of_bytes_are_rows_of_pixels();
     let mut pixel = 0;
     while bytes.len() - 4 * pixel >= 16 {
         if !passes(u8x16::from_slice(&bytes[4 * pixel..])) {
@@ -44,15 +47,6 @@ fn passes(block: u8x16) -> bool
     ensures { IsTrue result → Each1 (λ p. exceeds p ≡ false) (pixels block) }
 {
     block.simd_gt(mattes(block)).to_bitmask() == 0
-}
-
-/// The matte of each of four pixels in all its lanes.
-#[inline(always)]
-fn mattes(block: u8x16) -> u8x16
-    ensures long { length result ≡ 16 }
-    ensures value { result ≡ mattes_of block }
-{
-    block.swizzle([3, 3, 3, 3, 7, 7, 7, 7, 11, 11, 11, 11, 15, 15, 15, 15])
 }
 
 /// Whether a colour of the first pixel exceeds its matte.
