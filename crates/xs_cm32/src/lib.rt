@@ -1,10 +1,11 @@
 //! Pixels of CM32 drawings: a word names an ink style and a paint style and says how they mix.
 #![tactic(auto)]
 
-pub mod word;
+mod word;
 
 pub use word::{
-    Cm32, colour, pure_tones, rows_of_bytes_are_rows_of_words, word_layout, words_have_pixels,
+    Cm32, colour, pure_tones, rows_of_bytes_are_rows_of_words, word_at, word_layout,
+    words_have_pixels,
 };
 
 #[cfg(test)]

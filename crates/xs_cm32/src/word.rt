@@ -56,8 +56,8 @@ impl Cm32 {
     }
 }
 
-/// The word whose bytes begin at the byte `at` of a row.
-fn word_at(row: &[u8], at: usize) -> Cm32
+/// The word whose bytes begin at the byte `at` of a row, lowest byte first.
+pub fn word_at(row: &[u8], at: usize) -> Cm32
     requires { at + 4 ≤ length row.now }
     ensures { words (chunk at 4 row.now) ≡ result ∷ [] }
 {

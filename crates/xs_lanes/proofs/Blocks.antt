@@ -2,11 +2,11 @@
 use Rattle.std.proofs.Common.{◌≡◌, ℕ, ◌+◌, ◌-◌, ◌*◌, ◌%◌, ◌≤◌, zero, suc, min, List, [], ◌∷◌, length, map, refl, ap, arith}
 use Rattle.std.specs.Simd.Lanes.{Each1, zip2}
 use Rattle.xs_pixel.specs.Channels.{channels, IsPixel}
-use Rattle.xs_pixel.specs.Rows.{pixels}
+use Rattle.xs_pixel.specs.Rows.{pixels, mattes_of}
 use Rattle.xs_pixel.specs.Operations.{product, by_channel, faded_of, over_of, sub_of, matte_in_of, matte_out_of}
 use Rattle.xs_pixel.proofs.Products.{product-opaque, product-zero_right}
 use Rattle.xs_pixel.proofs.StaysPixel.{IsPixel-over_of}
-use Rattle.xs_lanes.specs.Mattes.{mattes_of, colour_lanes}
+use Rattle.xs_lanes.specs.Colours.{colour_lanes}
 
 -- an operation that makes each channel from that channel alone
 pub pixels-zip2 : (f : ℕ → ℕ → ℕ) (n : ℕ) (u d : List ℕ) → length u ≡ 4 * n → pixels (zip2 f u d) ≡ zip2 (by_channel (λ c m e k. f c e)) (pixels u) (pixels d)

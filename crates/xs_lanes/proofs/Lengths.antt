@@ -4,15 +4,10 @@ use Rattle.std.specs.Simd.Lanes.{Each1, zip2}
 use Rattle.std.proofs.lemmas.Simd.{length-zip2, Each1-zip2, Each2-of}
 use Rattle.xs_pixel.specs.Channels.{Channels, IsPixel}
 use Rattle.xs_pixel.specs.Rows.{pixels}
-use Rattle.xs_pixel.specs.Operations.{apply_of}
-use Rattle.xs_pixel.specs.declared.operation.Op.{Op}
 use Rattle.xs_pixel.proofs.Rows.{length-pixels}
 use Rattle.xs_cm32.specs.Rows.{words}
-use Rattle.xs_cm32.specs.Word.{ink_of, paint_of, colour_under}
-use Rattle.xs_cm32.proofs.Mixes.{IsPixel-colour_of}
 use Rattle.xs_cm32.proofs.WordRows.{length-words}
 use Rattle.std.proofs.lemmas.List.{length-map}
-use Rattle.xs_pixel.proofs.StaysPixel.{IsPixel-apply_of}
 
 pub length-pixels-quarter : (row : List ℕ) → length row % 4 ≡ 0 → length (pixels row) ≡ length row / 4
 length-pixels-quarter row whole = length-pixels (length row / 4) row (omega arith)
@@ -30,13 +25,12 @@ pub length-colours : (f : ℕ → Channels) (row : List ℕ) → length row % 4 
 length-colours f row whole =
     let count = length-words (length row / 4) row (omega arith) in omega (arith, length-map (words row) f, count)
 
--- the colours of words under a palette of pixels are pixels
-pub Each1-colours : (style : ℕ → Channels) → ((id : ℕ) → IsPixel (style id)) → (ws : List ℕ) → Each1 IsPixel (map (colour_under style) ws)
-Each1-colours style valid [] = tt
-Each1-colours style valid (w ∷ ws) =
-    (IsPixel-colour_of w (style (ink_of w)) (style (paint_of w)) (valid (ink_of w)) (valid (paint_of w)), Each1-colours style valid ws)
+-- what holds of each colour holds of the colours of a row of words
+pub Each1-colours : (P : Channels → Type 0) (f : ℕ → Channels) → ((w : ℕ) → P (f w)) → (ws : List ℕ) → Each1 P (map f ws)
+Each1-colours P f each [] = tt
+Each1-colours P f each (w ∷ ws) = (each w, Each1-colours P f each ws)
 
 -- the results of an operation on pixels are pixels
-pub Each1-results : (op : Op) (us vs : List Channels) → Each1 IsPixel us → Each1 IsPixel vs → Each1 IsPixel (zip2 (apply_of op) us vs)
-Each1-results op us vs first second =
-    Each1-zip2 (apply_of op) IsPixel us vs (Each2-of IsPixel IsPixel (λ u d. IsPixel (apply_of op u d)) (IsPixel-apply_of op) us vs first second)
+pub Each1-results : (op : Channels → Channels → Channels) → ((u d : Channels) → IsPixel u → IsPixel d → IsPixel (op u d)) → (us vs : List Channels) → Each1 IsPixel us → Each1 IsPixel vs → Each1 IsPixel (zip2 op us vs)
+Each1-results op keeps us vs first second =
+    Each1-zip2 op IsPixel us vs (Each2-of IsPixel IsPixel (λ u d. IsPixel (op u d)) keeps us vs first second)

@@ -1,8 +1,7 @@
-use Rattle.std.proofs.Common.{◌≡◌, ℕ, ◌+◌, ◌*◌, ◌/◌, ◌%◌, ◌^◌, ◌≤◌, List, [], ◌∷◌, length, map, replicate, refl, sym, ap, subst, arith}
+use Rattle.std.proofs.Common.{◌≡◌, ℕ, ◌+◌, ◌*◌, ◌/◌, ◌%◌, ◌^◌, ◌<◌, ◌≤◌, List, [], ◌∷◌, length, map, replicate, refl, sym, ap, subst, arith}
 use Rattle.std.specs.Simd.Lanes.{Each1, zip2}
-use Rattle.std.proofs.Math.Nat.{mul-le-mul_left, mul-le-mul_right}
+use Rattle.std.proofs.Math.Nat.{mul-le-mul, mul-le-mul_left, mul-le-mul_right}
 use Rattle.std.proofs.lemmas.Simd.{Each1-zip2, Each2-of}
-use Rattle.xs_pixel.proofs.Products.{product_le_left}
 use mir.Syntax.{w8}
 use mir.Val.{Fits}
 use Rattle.xs_pixel.specs.Operations.{product}
@@ -14,6 +13,10 @@ product_is x y left right =
     let most : x * y ≤ 255 * y = mul-le-mul_right y left in
     let more : 255 * y ≤ 255 * 255 = mul-le-mul_left 255 right in
     omega (arith, most, more)
+
+product_below : (x y : ℕ) → x ≤ 255 → y ≤ 255 → product x y < 2 ^ 8
+unfolding product
+product_below x y left right = omega (arith, mul-le-mul left right)
 
 -- the same of each two lanes, as the code computes it
 abbrev pub products_made : ℕ → List ℕ → List ℕ → List ℕ
@@ -35,7 +38,7 @@ products_are xs ys long left right = subst (λ (n : ℕ). products_made n xs ys 
 pub products_fit : (xs ys : List ℕ) → length xs ≡ 16 → Each1 (Fits w8) xs → Each1 (Fits w8) ys → Each1 (Fits w8) (products_made 16 xs ys)
 products_fit xs ys long left right =
     let small : (x y : ℕ) → Fits w8 x → Fits w8 y → Fits w8 (product x y) =
-    λ x y fx fy. record { fits = omega (arith, product_le_left x y (omega (arith, fy)), fx) }
+    λ x y fx fy. record { fits = product_below x y (omega (arith, fx)) (omega (arith, fy)) }
     in
     let all : Each1 (Fits w8) (zip2 product xs ys) =
     Each1-zip2 product (Fits w8) xs ys (Each2-of (Fits w8) (Fits w8) (λ x y. Fits w8 (product x y)) small xs ys left right)

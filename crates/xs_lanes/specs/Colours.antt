@@ -1,8 +1,8 @@
-use Rattle.std.specs.Prelude.{ℕ, min, List, [], ◌∷◌, slice_index_or}
+use Rattle.std.specs.Prelude.{ℕ, zero, suc, min, List, [], ◌∷◌, slice_index_or}
 use Rattle.xs_pixel.specs.Channels.{Channels, clear}
 use Rattle.xs_cm32.specs.Word.{mixed}
 
--- the pixel of a style in a table whose last pixel is for every style that lacks
+-- the pixel of a style in a table whose last pixel is for every number past the palette's last style
 abbrev pub looked_up : List Channels → ℕ → ℕ → Channels
 looked_up table last id = slice_index_or table (min id last) clear
 
@@ -15,3 +15,8 @@ tones_of _ = []
 abbrev pub mixes_of : List ℕ → List ℕ → List ℕ → List ℕ
 mixes_of (t ∷ tones) (i ∷ inks) (p ∷ paints) = mixed t i p ∷ mixes_of tones inks paints
 mixes_of _ _ _ = []
+
+-- the greatest byte for each colour of n pixels, and 0 for their mattes
+abbrev pub colour_lanes : ℕ → List ℕ
+colour_lanes zero = []
+colour_lanes (suc n) = 255 ∷ 255 ∷ 255 ∷ 0 ∷ colour_lanes n

@@ -9,19 +9,11 @@ ghost use Rattle.xs_lanes.specs.Colours.{looked_up, tones_of, mixes_of};
 ghost use Rattle.xs_lanes.specs.Done.{Done};
 
 use std::simd::prelude::*;
-use xs_cm32::{Cm32, colour};
+use xs_cm32::{colour, word_at, words_have_pixels};
 use xs_palette::Palette;
 
-/// The word whose bytes begin at a place of a row, lowest byte first.
-fn word_at(row: &[u8], at: usize) -> Cm32
-    requires { at + 4 ≤ length row.now }
-    ensures { words (chunk at 4 row.now) ≡ result ∷ [] }
-{
-    Cm32(u32::from_le_bytes(u8x4::from_slice(&row[at..]).to_array()))
-}
-
-/// The bytes of a style's pixel in a table whose last pixel, at the place `last`, is for all styles
-/// that lack.
+/// The bytes of a style's pixel in a table whose last pixel, at the place `last`, is for all style
+/// numbers past the palette's last.
 #[inline(always)]
 fn entry(table: &[u8], last: u32, id: u32) -> u8x4
     requires { length table.now ≡ 4 * (last + 1) }
@@ -162,6 +154,7 @@ pub fn cm32_row(row: &[u8], p: &Palette, to: &mut [u8])
     ensures value { pixels to.new ≡ map (colour_under (style_of p.now)) (words row.now) }
     ensures valid { Each1 IsPixel (pixels to.new) }
 {
+    words_have_pixels();
     let table = p.table();
     let last = (table.len() / 4 - 1) as u32;
     let from = blocks(row, table, last, to);

@@ -1,7 +1,7 @@
 ghost use Rattle.std.specs.Prelude.{◌≡◌, ◌+◌, ◌-◌, ◌%◌, min, max, map, length, IsTrue};
 ghost use Rattle.std.specs.Simd.Lanes.{Each1, zip2};
 ghost use Rattle.xs_pixel.specs.Operations.{product};
-ghost use Rattle.xs_lanes.specs.Mattes.{mattes_of, colour_lanes};
+ghost use Rattle.xs_lanes.specs.Colours.{colour_lanes};
 
 use std::simd::prelude::*;
 
@@ -67,15 +67,6 @@ pub(crate) fn complements(x: u8x16) -> u8x16
     ensures value { result ≡ map (λ a. 255 - a) x }
 {
     !x
-}
-
-/// The matte of each pixel in all four of its lanes.
-#[inline(always)]
-pub(crate) fn mattes(u: u8x16) -> u8x16
-    ensures long { length result ≡ 16 }
-    ensures value { result ≡ mattes_of u }
-{
-    u.swizzle([3, 3, 3, 3, 7, 7, 7, 7, 11, 11, 11, 11, 15, 15, 15, 15])
 }
 
 /// The colours of each pixel, with nothing in the place of its matte.

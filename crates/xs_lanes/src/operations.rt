@@ -4,11 +4,10 @@ ghost use Rattle.xs_pixel.specs.Operations.{over_of, add_of, sub_of, mult_of, mi
 
 use crate::kernel::Kernel;
 use crate::lanes::{
-    are_all, capped_sums, colours, complements, differences, greater, lesser, mattes, products,
-    sums,
+    are_all, capped_sums, colours, complements, differences, greater, lesser, products, sums,
 };
 use std::simd::prelude::*;
-use xs_pixel::Pixel;
+use xs_pixel::{Pixel, mattes};
 
 pub(crate) struct Over;
 

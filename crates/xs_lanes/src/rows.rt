@@ -7,6 +7,7 @@ ghost use Rattle.xs_pixel.specs.Rows.{pixels};
 use crate::kernel::row;
 use crate::operations::{Add, MatteIn, MatteOut, Max, Min, Mult, Over, Sub};
 use xs_pixel::Op;
+use xs_pixel::laws::operations_keep_pixels;
 
 /// Writes the results of `op` on the pixels of an upper row `u` and a lower row `d`. A row is four
 /// bytes for each pixel, and all three are equally long.
@@ -19,6 +20,7 @@ pub fn op_row(op: Op, u: &[u8], d: &[u8], to: &mut [u8])
     ensures value { pixels to.new ≡ zip2 (apply_of op) (pixels u.now) (pixels d.now) }
     ensures valid { Each1 IsPixel (pixels to.new) }
 {
+    operations_keep_pixels();
     by_blocks(op, u, d, to);
 }
 

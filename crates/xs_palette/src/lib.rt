@@ -1,11 +1,11 @@
 //! Palettes: the pixel of a style, by its number.
 #![tactic(auto)]
 
-pub mod fault;
-pub mod palette;
+mod fault;
+mod palette;
 
 pub use fault::PaletteFault;
-pub use palette::{MOST_STYLES, Palette};
+pub use palette::{MOST_STYLES, Palette, palette_crosses_threads};
 
 #[cfg(test)]
 mod tests;

@@ -2,14 +2,14 @@
 //! memory.
 #![tactic(auto)]
 
-pub mod block;
-pub mod film;
+mod block;
+mod film;
 pub mod laws;
-pub mod list;
-pub mod memory;
-pub mod operation;
-pub mod pixel;
-pub mod style;
+mod list;
+mod memory;
+mod operation;
+mod pixel;
+mod style;
 
 pub use block::mattes;
 pub use film::Film;

@@ -2,9 +2,9 @@
 //! Rows go from the lowest up, and each from left to right.
 #![tactic(auto)]
 
-pub mod raster;
-pub mod tile;
-pub mod tile_ref;
+mod raster;
+mod tile;
+mod tile_ref;
 
 pub use raster::Raster;
 pub use tile::Tile;

@@ -32,10 +32,6 @@ abbrev pub content_of : RawKind → List ℕ → Content
 content_of Colour bytes = Colours (pixels bytes)
 content_of Cm32 bytes = Words (words bytes)
 
-abbrev pub words_by : RawKind → List ℕ → List ℕ
-words_by Colour bytes = []
-words_by Cm32 bytes = words bytes
-
 -- the pixels that are seen of it under the palette with this number
 abbrev pub coloured_of : List (List Channels) → RawKind → List ℕ → Option ℕ → List Channels
 coloured_of palettes Colour bytes palette = pixels bytes
@@ -53,6 +49,10 @@ abbrev pub plain_picture : Raw → Picture
 plain_picture g = picture_of [] g None
 
 -- the words of a CM32 drawing; a colour drawing has none
+abbrev pub words_by : RawKind → List ℕ → List ℕ
+words_by Colour bytes = []
+words_by Cm32 bytes = words bytes
+
 abbrev pub words_of : Raw → List ℕ
 words_of g = words_by g.kind g.bytes
 

@@ -14,10 +14,10 @@ use xs_pixel::laws::points_of_a_box_have_places;
 use xs_pixel::{List, Pixel};
 
 /// The longest side of a drawing, in pixels.
-pub const LONGEST_SIDE: u32 = 4096;
+const LONGEST_SIDE: u32 = 4096;
 
 /// How far the corner of a drawing may lie from the origin along each axis, in pixels.
-pub const FARTHEST: i32 = 65_536;
+const FARTHEST: i32 = 65_536;
 
 /// What the four bytes of a pixel are in a file.
 #[derive(Clone, Copy, Debug, PartialEq, Eq)]

@@ -12,7 +12,7 @@ use std::alloc::{AllocError, Global};
 use xs_pixel::{List, Memory};
 
 /// How many bytes of a file come before its pixels.
-pub const HEADER: usize = 21;
+const HEADER: usize = 21;
 
 /// The drawing that the bytes of a file hold, for a level of this kind, or their first fault.
 pub fn read_level(alloc: Global, bytes: &[u8], kind: RawKind) -> Result<Drawing, LevelFault>

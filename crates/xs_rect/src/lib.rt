@@ -2,8 +2,8 @@
 //! upwards.
 #![tactic(auto)]
 
-pub mod rect;
-pub mod tiling;
+mod rect;
+mod tiling;
 
 pub use rect::Rect;
 pub use tiling::tiles;

@@ -4,10 +4,10 @@ ghost use Rattle.xs_rect.specs.Area.{IsSide, IsNear, IsPart, Lies};
 use std::marker::Model;
 
 /// The longest side of a rectangle, in points.
-pub const LONGEST_SIDE: u32 = 8192;
+const LONGEST_SIDE: u32 = 8192;
 
 /// How far the corner of a rectangle may lie from the origin along each axis, in points.
-pub const FARTHEST: i32 = 134_217_728;
+const FARTHEST: i32 = 134_217_728;
 
 /// A rectangle of whole points: its corner with the least x and y, and its two sides. A side is from
 /// 1 to 8192, and the corner within 2^27 of the origin along each axis.

@@ -5,7 +5,7 @@ use crate::rect::Rect;
 use std::alloc::{AllocError, Global};
 
 /// The side of a tile, in points.
-pub const TILE_SIDE: u32 = 64;
+const TILE_SIDE: u32 = 64;
 
 /// The tiles of a frame of `w` by `h` points whose lower left corner is the origin: 64 by 64 from that
 /// corner on, the last of a row or column smaller; from bottom to top, in each row left to right.

@@ -3,6 +3,7 @@ use Rattle.std.proofs.Math.Path.{fun_ext}
 use Rattle.std.proofs.lemmas.Simd.{Each1-get_or}
 use Rattle.xs_pixel.specs.Channels.{Channels, clear, IsPixel}
 use Rattle.xs_pixel.specs.Rows.{pixels}
+use Rattle.xs_cm32.specs.Word.{ink_of, paint_of, colour_under}
 use Rattle.xs_palette.specs.Styles.{style_of}
 use Rattle.xs_lanes.specs.Colours.{looked_up}
 use Rattle.xs_lanes.proofs.Lengths.{Each1-colours}
@@ -24,4 +25,5 @@ returns-clause-valid c =
     λ id. subst (λ (q : Channels). IsPixel q) (c.table-table.ensures.look_up id)
     (Each1-get_or IsPixel p (min id (length p - 1)) clear (omega (arith, c.table-table.ensures.few)) c.table-table.ensures.valid)
     in
-    rw c.rest.ensures (Each1-colours (style_of p) valid _)
+    rw c.rest.ensures
+    (Each1-colours IsPixel (colour_under (style_of p)) (λ w. c.words_have_pixels.ensures w _ _ (valid (ink_of w)) (valid (paint_of w))) _)
