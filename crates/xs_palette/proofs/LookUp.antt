@@ -1,4 +1,4 @@
-use Rattle.std.proofs.Common.{◌≡◌, ℕ, ◌+◌, ◌-◌, ◌≤◌, zero, suc, List, length, get_or, min, inl, inr, refl, arith}
+use Rattle.std.proofs.Common.{◌≡◌, ℕ, ◌+◌, ◌≤◌, zero, suc, List, length, get_or, min, inl, inr, refl, arith}
 use Rattle.std.proofs.lemmas.Bool.{cases_lt}
 use Rattle.std.proofs.lemmas.List.{get_or_past}
 use Rattle.xs_pixel.specs.Channels.{Channels, clear}
@@ -15,11 +15,6 @@ look_up last styles long zero_clear last_clear (suc id) =
           rw (at, past) last_clear
       | inr within ↦ let at : min (suc id) last ≡ suc id = omega arith in rw at refl
     ]
-
--- the same, with the last place as one less than the length
-pub look_up_last : (last : ℕ) (styles : List Channels) → length styles ≡ last + 1 → get_or styles 0 clear ≡ clear → get_or styles last clear ≡ clear → (id : ℕ) → get_or styles (min id (length styles - 1)) clear ≡ style_of styles id
-look_up_last last styles long zero_clear last_clear id =
-    let at : length styles - 1 ≡ last = omega arith in rw at (look_up last styles long zero_clear last_clear id)
 
 -- past the last style there is nothing
 pub style_of-past : (styles : List Channels) (id : ℕ) → length styles ≤ id → style_of styles id ≡ clear

@@ -1,4 +1,4 @@
-use Rattle.std.proofs.Common.{w32, subst, sym, arith, refl}
+use Rattle.std.proofs.Common.{w32, subst, sym, arith}
 use Rattle.std.proofs.lemmas.Int.{to_z-of_z}
 use Rattle.xs_rawfile.specs.Raw.{Raw, IsRaw}
 use Rattle.xs_rawfile.proofs.Scanning.{bytes_from}
@@ -24,7 +24,7 @@ pub returns : goal.returns
 returns c =
     let x = to_z-of_z w32 c.cast_signed.result (record { sfits = c.cast_signed.type_inv }) in
     let y = to_z-of_z w32 c.cast_signed-2.result (record { sfits = c.cast_signed-2.type_inv }) in
-    rw (x, y, c.cast_signed.ensures, c.cast_signed-2.ensures, c.number_at.ensures, c.number_at-2.ensures, c.number_at-3.ensures, c.number_at-4.ensures, c.of.ensures, c.in_ok-pixels.ensures.items, c.pixel_bytes.ensures) refl
+    rw (x, y, c.cast_signed.ensures, c.cast_signed-2.ensures, c.number_at.ensures, c.number_at-2.ensures, c.number_at-3.ensures, c.number_at-4.ensures, c.of.ensures, c.in_ok-pixels.ensures.items, c.pixel_bytes.ensures)
 
 pub invariant_of-result : goal.invariant_of-result
 invariant_of-result c =

@@ -1,6 +1,6 @@
-use Rattle.std.proofs.Common.{◌+◌, length, ap, arith}
+use Rattle.std.proofs.Common.{◌≡◌, ◌+◌, ◌-◌, length, ap, arith}
 use Rattle.xs_pixel.specs.Rows.{pixels}
-use Rattle.xs_palette.proofs.LookUp.{look_up_last}
+use Rattle.xs_palette.proofs.LookUp.{look_up}
 use Rattle.xs_palette.proofs.palette.Palette.table.Goals as goal
 
 pub returns-clause-whole : goal.returns-clause-whole
@@ -18,4 +18,5 @@ pub returns-clause-look_up : goal.returns-clause-look_up
 returns-clause-look_up c =
     let table = c.self.inside.table.items in
     let long = c.rows_of_bytes_are_rows_of_pixels.ensures.count (c.self.inside.past + 1) table c.self.invariant.whole in
-    rw (← c.self.view_is) (look_up_last (c.self.inside.past) (pixels table) long c.self.invariant.zero_clear c.self.invariant.past_clear)
+    let last : length (pixels table) - 1 ≡ c.self.inside.past = omega arith in
+    rw (← c.self.view_is) (λ id. rw last (look_up c.self.inside.past (pixels table) long c.self.invariant.zero_clear c.self.invariant.past_clear id))
