@@ -3,10 +3,7 @@
 
 mod word;
 
-pub use word::{
-    Cm32, colour, pure_tones, rows_of_bytes_are_rows_of_words, word_at, word_layout,
-    words_have_pixels,
-};
+pub use word::{Cm32, colour, pure_tones, word_at, word_layout, words_have_pixels};
 
 #[cfg(test)]
 mod tests;

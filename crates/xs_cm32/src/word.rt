@@ -1,4 +1,4 @@
-ghost use Rattle.std.specs.Prelude.{◌≡◌, ℕ, ◌+◌, ◌*◌, ◌<◌, ◌≤◌, ◌^◌, [], ◌∷◌, List, length, slice_index_or};
+ghost use Rattle.std.specs.Prelude.{◌≡◌, ℕ, ◌+◌, ◌*◌, ◌<◌, ◌≤◌, ◌^◌, [], ◌∷◌, length, slice_index_or};
 ghost use Rattle.std.specs.Simd.Lanes.{chunk};
 ghost use Rattle.xs_pixel.specs.Channels.{Channels, IsPixel};
 ghost use Rattle.xs_cm32.specs.Rows.{words};
@@ -71,12 +71,6 @@ pub fn word_layout()
     ensures paint { (i p t : ℕ) → p < 4096 → t < 256 → paint_of (word_of i p t) ≡ p }
     ensures tone { (i p t : ℕ) → t < 256 → tone_of (word_of i p t) ≡ t }
     ensures fits { (i p t : ℕ) → i < 4096 → p < 4096 → t < 256 → word_of i p t < 2 ^ 32 }
-{}
-
-/// A row of bytes is a row of words, four bytes for each, and so are its parts.
-pub fn rows_of_bytes_are_rows_of_words()
-    ensures count { (n : ℕ) (row : List ℕ) → length row ≡ 4 * n → length (words row) ≡ n }
-    ensures part { (k n : ℕ) (row : List ℕ) → words (chunk (4 * k) (4 * n) row) ≡ chunk k n (words row) }
 {}
 
 /// The colour of each word with two pixels is a pixel.

@@ -157,8 +157,8 @@ fn has_wrong_length(bytes: &[u8]) -> bool
 
 /// The bytes after the header.
 fn pixel_bytes(bytes: &[u8]) -> &[u8]
-    requires { 21 ≤ length bytes.now }
-    ensures { result.now ≡ drop 21 bytes.now }
+    requires { HEADER ≤ length bytes.now }
+    ensures { result.now ≡ drop HEADER bytes.now }
 {
     &bytes[HEADER..]
 }
