@@ -6,6 +6,13 @@ use xs_json::{Field, FieldFault, Place, object};
 use xs_scene::Sheet;
 
 impl Element for Sheet {
+    ghost use Rattle.xs_scene.specs.Ranges.{HasNoLines, HasOldNodes};
+    ghost use Rattle.xs_scene_text.specs.SceneText.{sheet_at};
+
+    ghost reading = { sheet_at };
+
+    ghost plain = { λ sheet. HasNoLines sheet × HasOldNodes sheet };
+
     #[tactic(auto, unfolding(xs_scene_text::specs::SceneText::sheet_at, xs_scene::specs::Ranges::HasNoLines, xs_scene::specs::Ranges::HasOldNodes))]
     fn read(alloc: Global, format: u32, v: &Value, place: &Place) -> Result<Self, FieldFault> {
         let at = place.path(alloc)?;

@@ -14,8 +14,10 @@ const LONGEST_SPAN: u32 = 4095;
 /// The same of `again`, which renders each row twice.
 const LONGEST_SPAN_OF_TWO: u32 = 2047;
 
+/// The most threads that render at once.
 const MOST_WORKERS: u32 = 64;
 
+/// The most rows of a generated scene that are rendered.
 const MOST_GENERATED_ROWS: u32 = 240;
 
 fn read_render(alloc: Global, words: &[String]) -> Result<Command, WordsFault>
