@@ -41,7 +41,7 @@ first_missing needed ms = find (λ k. not (has k ms)) needed
 abbrev pub known_only : List Field → List ℕ → Members → Reading Members
 known_only keys at ms = if has_only keys ms then Ok ms else fault code.UnknownKey at
 
-abbrev told_missing : Option Field → List ℕ → Members → Reading Members
+abbrev pub told_missing : Option Field → List ℕ → Members → Reading Members
 told_missing None at ms = Ok ms
 told_missing (Some k) at ms = fault code.MissingKey (path_of k at)
 
