@@ -117,7 +117,7 @@ impl Element for Peg {
 
     ghost plain = { HasNoLine };
 
-    #[tactic(auto, unfolding(xs_scene_text::specs::SceneText::peg_at, xs_scene::specs::Ranges::HasNoLine))]
+    #[tactic(auto, unfolding(xs_scene_text::specs::SceneText::peg_at))]
     fn read(alloc: Global, format: u32, v: &Value, place: &Place) -> Result<Self, FieldFault> {
         let at = place.path(alloc)?;
         let map = object(alloc, v, &at, &[Field::Parent, Field::Keys], &[])?;

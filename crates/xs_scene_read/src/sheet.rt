@@ -13,7 +13,7 @@ impl Element for Sheet {
 
     ghost plain = { λ sheet. HasNoLines sheet × HasOldNodes sheet };
 
-    #[tactic(auto, unfolding(xs_scene_text::specs::SceneText::sheet_at, xs_scene::specs::Ranges::HasNoLines, xs_scene::specs::Ranges::HasOldNodes))]
+    #[tactic(auto, unfolding(xs_scene_text::specs::SceneText::sheet_at))]
     fn read(alloc: Global, format: u32, v: &Value, place: &Place) -> Result<Self, FieldFault> {
         let at = place.path(alloc)?;
         let fields = [Field::Pegs, Field::Columns, Field::Nodes, Field::Out];
