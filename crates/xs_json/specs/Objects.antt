@@ -1,5 +1,5 @@
 -- The fields of an object, each by its kind.
-use Rattle.std.specs.Prelude.{ℕ, ℤ, List, [], ◌∷◌, Bool, true, false, not, ◌&&◌, int_lt, if◌then◌else◌, Option, Some, None, is_some, option_and_then, bytes_eq, find, Ok}
+use Rattle.std.specs.Prelude.{ℕ, ℤ, List, Bool, true, not, ◌&&◌, int_lt, if◌then◌else◌, Option, Some, None, is_some, option_and_then, bytes_eq, find, Ok}
 use Rattle.std.specs.List.{list_any}
 use Rattle.serde_json.specs.Data.{Data, Items, Members, no_members, member}
 use Rattle.serde_json.specs.Find.{get_member, as_object, as_array, as_str, as_bool, as_number, as_i64}

@@ -12,8 +12,8 @@ use Rattle.xs_scene.specs.declared.node.Ref.TheVariants as target
 use Rattle.xs_scene.specs.declared.node.Node.{Node}
 use Rattle.xs_scene.specs.declared.node.Node.TheVariants as node
 use Rattle.xs_scene_text.specs.Fields.{number_at, row_at, list_of}
-use Rattle.xs_scene_text.specs.SceneText.{is_newer, camera_at, style_at, palette_at, level_at, peg_at, column_at, node_number_at, column_number_at, ref_at, pair_at, card_at, shuffle_at, blur_at, filter_at, keep_at, delete_at, node_at, sheet_at, scene_at}
-use Rattle.xs_scene_text.specs.SceneData.{IsReadAgain, number_data, list_data, camera_data, style_data, palette_data, level_data, peg_data, column_data, ref_data, node_data, sheet_data, scene_data}
+use Rattle.xs_scene_text.specs.SceneText.{is_newer, style_at, palette_at, level_at, peg_at, column_at, node_number_at, column_number_at, ref_at, pair_at, card_at, shuffle_at, blur_at, filter_at, keep_at, delete_at, node_at, sheet_at, scene_at}
+use Rattle.xs_scene_text.specs.SceneData.{IsReadAgain, number_data, list_data, style_data, palette_data, level_data, peg_data, column_data, ref_data, node_data, sheet_data, scene_data}
 use Rattle.xs_scene_text.proofs.Again.{list_again}
 use Rattle.xs_scene_text.proofs.Objects.{number_again, reference_again, camera_again, style_again, palette_again, level_again, peg_again, column_again}
 
