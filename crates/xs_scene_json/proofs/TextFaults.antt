@@ -1,8 +1,8 @@
 -- The fault of a scene text has a code that `decode` gives, whatever stands in the text.
-use Rattle.std.proofs.Common.{◌≡◌, ◌+◌, ℕ, ℤ, Bool, true, false, List, [], ◌∷◌, Option, Some, None, Ok, Err, if◌then◌else◌, is_some, option_and_then, int_lt, pos, negsuc, unsigned_abs, ◌==◌, ◌&&◌, refl, ap, ◌∙◌}
+use Rattle.std.proofs.Common.{◌≡◌, ◌+◌, ℕ, ℤ, Bool, true, false, List, [], ◌∷◌, Option, Some, None, Ok, Err, if◌then◌else◌, is_some, int_lt, pos, negsuc, ◌==◌, ◌&&◌, refl, ap, ◌∙◌}
 use Rattle.serde_json.specs.Data.{Data, Items, no_items, item, Members}
 use Rattle.serde_json.specs.Events.{items_len}
-use Rattle.serde_json.specs.Find.{as_object, as_array, as_number, as_i64, at as item_at}
+use Rattle.serde_json.specs.Find.{as_object, as_array, at as item_at}
 use Rattle.xs_json.specs.declared.code.SceneCode.{SceneCode}
 use Rattle.xs_json.specs.declared.code.SceneCode.TheVariants as code
 use Rattle.xs_json.specs.declared.fault.SceneFault.{SceneFault}
@@ -10,17 +10,13 @@ use Rattle.xs_json.specs.declared.field.Field.{Field}
 use Rattle.xs_json.specs.declared.field.Field.TheVariants as f
 use Rattle.xs_json.specs.Paths.{index_at}
 use Rattle.xs_json.specs.Reading.{Reading, ◌>>=◌, fault, or_fault}
-use Rattle.xs_json.specs.Objects.{has, has_only, has_any, path_of, value_of, first_missing, told_missing, none_missing, object_at, whole_at, text_at, list_at, flag_at}
+use Rattle.xs_json.specs.Objects.{has, has_only, has_any, path_of, value_of, first_missing, told_missing, none_missing, object_at, whole_at, text_at, flag_at}
 use Rattle.xs_pixel.specs.declared.operation.Op.{Op}
 use Rattle.xs_scene.specs.Names.{is_name}
-use Rattle.xs_scene.specs.declared.level.Kind.TheVariants as kind
-use Rattle.xs_scene.specs.declared.column.Shown.TheVariants as shown
-use Rattle.xs_scene.specs.declared.node.Ref.TheVariants as target
-use Rattle.xs_scene.specs.declared.node.Node.TheVariants as node
 use Rattle.xs_scene_text.specs.declared.work.Work.{Work}
 use Rattle.xs_scene_text.specs.declared.work.Work.TheVariants as work
-use Rattle.xs_scene_text.specs.Fields.{field, if_there, optional_field, or_given, field_or, none_of, form_at, each_at, list_of, number_at, row_at, reference_at, offset_at, is_other_number, no_other_number}
-use Rattle.xs_scene_text.specs.SceneText.{is_newer, peg_key_fields, scene_fields, is_cm32, work_of, json_of, placements, camera_at, four_at, channel_at, style_at, style_key_at, plain_palette_at, keyed_palette_at, palette_at, name_at, is_cm32_at, kind_of, level_at, moves_only, line_at, peg_key_at, peg_at, shown_sheet_at, shown_drawing_at, shown_at, cell_at, column_at, node_number_at, column_number_at, target_at, ref_at, pair_at, card_at, shuffle_at, blur_at, filter_at, keep_at, delete_at, work_at, node_of, node_at, sheet_at, scene_at, scene_of}
+use Rattle.xs_scene_text.specs.Fields.{field, if_there, optional_field, or_given, field_or, none_of, form_at, each_at, list_of, number_at, offset_at, is_other_number}
+use Rattle.xs_scene_text.specs.SceneText.{is_newer, peg_key_fields, scene_fields, is_cm32, work_of, json_of, placements, camera_at, four_at, channel_at, style_at, style_key_at, plain_palette_at, keyed_palette_at, palette_at, name_at, is_cm32_at, kind_of, level_at, moves_only, line_at, peg_key_at, peg_at, shown_sheet_at, shown_drawing_at, shown_at, cell_at, column_at, node_number_at, column_number_at, ref_at, pair_at, card_at, shuffle_at, blur_at, filter_at, keep_at, delete_at, work_at, node_of, node_at, sheet_at, scene_at, scene_of}
 use Rattle.xs_scene_json.specs.Faults.{is_text_code}
 
 -- a reading whose fault has a code of a text

@@ -119,7 +119,6 @@ fn read(alloc: Global, words: &[String]) -> Result<Command, WordsFault>
 
 /// The command that words say; the first word is the command. Of several faults the one with the least
 /// code is given, with its least word number.
-#[tactic(auto, using(crate::proofs::InRange::result_in_range))]
 pub fn read_words(alloc: Global, words: &[String]) -> Result<Command, WordsFault>
     ensures reading { Reads result (reading_of (map string_bytes words.now)) }
     ensures range { IfOk result IsCommand }
