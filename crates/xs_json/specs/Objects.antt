@@ -1,5 +1,5 @@
 -- The fields of an object, each by its kind.
-use Rattle.std.specs.Prelude.{ℕ, ℤ, List, [], ◌∷◌, Bool, true, false, not, ◌&&◌, int_lt, if◌then◌else◌, Option, Some, None, is_some, option_and_then, bytes_eq, find, Ok}
+use Rattle.std.specs.Prelude.{ℕ, ℤ, List, Bool, true, not, ◌&&◌, int_lt, if◌then◌else◌, Option, Some, None, is_some, option_and_then, bytes_eq, find, Ok}
 use Rattle.std.specs.List.{list_any}
 use Rattle.serde_json.specs.Data.{Data, Items, Members, no_members, member}
 use Rattle.serde_json.specs.Find.{get_member, as_object, as_array, as_str, as_bool, as_number, as_i64}
@@ -41,7 +41,7 @@ first_missing needed ms = find (λ k. not (has k ms)) needed
 abbrev pub known_only : List Field → List ℕ → Members → Reading Members
 known_only keys at ms = if has_only keys ms then Ok ms else fault code.UnknownKey at
 
-abbrev told_missing : Option Field → List ℕ → Members → Reading Members
+abbrev pub told_missing : Option Field → List ℕ → Members → Reading Members
 told_missing None at ms = Ok ms
 told_missing (Some k) at ms = fault code.MissingKey (path_of k at)
 

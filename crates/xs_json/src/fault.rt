@@ -9,7 +9,9 @@ use xs_pixel::Memory;
 /// What is wrong, and where.
 #[derive(Debug, Drop)]
 pub struct SceneFault {
+    /// What is wrong.
     pub code: SceneCode,
+    /// The place of it in the text.
     pub path: Path,
 }
 

@@ -1,7 +1,8 @@
 ghost use Rattle.std.specs.Prelude.{◌≡◌};
 ghost use Rattle.xs_json.specs.Fields.{field_text};
 
-/// A key of the objects of a scene text.
+/// A key of the objects of a scene text; `docs/FORMATS.md` says which objects have it and what stands at
+/// it. The variant has the name of the key.
 #[derive(Clone, Copy, Debug)]
 pub enum Field {
     Format,
@@ -52,58 +53,20 @@ pub enum Field {
     Radius,
 }
 
+/// The keys as they stand in a text, in the order of the variants.
+static KEYS: [&str; 46] = [
+    "format", "camera", "palettes", "levels", "sheets", "w", "h", "peg", "styles", "keys", "row",
+    "style", "rgba", "kind", "palette", "drawings", "pegs", "columns", "nodes", "out", "parent",
+    "x", "y", "line", "angle", "scale", "scale_x", "scale_y", "shear_x", "shear_y", "off", "cells",
+    "from", "to", "level", "drawing", "sheet", "start", "column", "node", "op", "first", "second",
+    "input", "list", "radius",
+];
+
 impl Field {
     /// The key, as it stands in a text.
     pub fn text(self) -> &'static str
         ensures { result.now ≡ field_text self }
     {
-        match self {
-            Field::Format => "format",
-            Field::Camera => "camera",
-            Field::Palettes => "palettes",
-            Field::Levels => "levels",
-            Field::Sheets => "sheets",
-            Field::W => "w",
-            Field::H => "h",
-            Field::Peg => "peg",
-            Field::Styles => "styles",
-            Field::Keys => "keys",
-            Field::Row => "row",
-            Field::Style => "style",
-            Field::Rgba => "rgba",
-            Field::Kind => "kind",
-            Field::Palette => "palette",
-            Field::Drawings => "drawings",
-            Field::Pegs => "pegs",
-            Field::Columns => "columns",
-            Field::Nodes => "nodes",
-            Field::Out => "out",
-            Field::Parent => "parent",
-            Field::X => "x",
-            Field::Y => "y",
-            Field::Line => "line",
-            Field::Angle => "angle",
-            Field::Scale => "scale",
-            Field::ScaleX => "scale_x",
-            Field::ScaleY => "scale_y",
-            Field::ShearX => "shear_x",
-            Field::ShearY => "shear_y",
-            Field::Off => "off",
-            Field::Cells => "cells",
-            Field::From => "from",
-            Field::To => "to",
-            Field::Level => "level",
-            Field::Drawing => "drawing",
-            Field::Sheet => "sheet",
-            Field::Start => "start",
-            Field::Column => "column",
-            Field::Node => "node",
-            Field::Op => "op",
-            Field::First => "first",
-            Field::Second => "second",
-            Field::Input => "input",
-            Field::List => "list",
-            Field::Radius => "radius",
-        }
+        KEYS[self as usize]
     }
 }

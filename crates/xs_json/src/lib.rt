@@ -16,7 +16,7 @@ pub use fault::{FieldFault, SceneFault};
 pub use field::Field;
 pub use objects::{all_there, has_any, object, optional, required};
 pub use path::Path;
-pub use place::{Place, Step, fault_at};
+pub use place::{Place, fault_at};
 pub use values::{flag, list, text, whole};
 
 #[cfg(test)]

@@ -1,9 +1,9 @@
-use Rattle.std.specs.Prelude.{ℕ, ◌≤◌, List, IfSome, All}
+use Rattle.std.specs.Prelude.{◌≤◌, IfSome, All}
 use Rattle.xs_pixel.specs.declared.style.Style.{Style}
 use Rattle.xs_scene.specs.declared.node.Node.{Node}
 use Rattle.xs_scene.specs.declared.node.Node.TheVariants.{Card}
 use Rattle.xs_scene.specs.Names.{IsName}
-use Rattle.xs_scene.specs.Ranges.{IsReference, IsCamera, IsStyleKey, IsKind, IsPegKey, IsExposure, IsNode, IsSheet, IsScene}
+use Rattle.xs_scene.specs.Ranges.{IsReference, IsCamera, IsStyleKey, IsKind, IsPegKey, IsExposure, IsSheet, IsScene}
 use Rattle.xs_scene.specs.Records.{StyleKeyRecord, ColoursRecord, LevelRecord, PegRecord, ColumnRecord, SheetRecord, SceneRecord}
 
 -- the ranges of a whole scene. In a contract a scene is a record of plain numbers, so a fact that needs

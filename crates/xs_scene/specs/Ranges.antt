@@ -1,5 +1,4 @@
-use Rattle.std.specs.Prelude.{◌≡◌, ◌≤◌, ◌≤ℤ◌, ℕ, ℤ, pos, negsuc, Bool, false, List, [], Option, IfSome, All}
-use Rattle.xs_pixel.specs.declared.style.Style.{Style}
+use Rattle.std.specs.Prelude.{◌≡◌, ◌≤◌, ◌≤ℤ◌, ℕ, ℤ, pos, negsuc, false, List, [], Option, IfSome, All}
 use Rattle.xs_scene.specs.declared.level.Kind.{Kind}
 use Rattle.xs_scene.specs.declared.level.Kind.TheVariants.{Colour, Cm32}
 use Rattle.xs_scene.specs.declared.column.Shown.{Shown}
@@ -8,8 +7,7 @@ use Rattle.xs_scene.specs.declared.node.Ref.{Ref}
 use Rattle.xs_scene.specs.declared.node.Ref.TheVariants as target
 use Rattle.xs_scene.specs.declared.node.Node.{Node}
 use Rattle.xs_scene.specs.declared.node.Node.TheVariants.{Pair, Card, Shuffle, Blur, Keep, Delete}
-use Rattle.xs_scene.specs.Names.{IsName}
-use Rattle.xs_scene.specs.Records.{StyleKeyRecord, ColoursRecord, CameraRecord, LevelRecord, PegKeyRecord, PegRecord, ExposureRecord, ColumnRecord, SheetRecord, SceneRecord}
+use Rattle.xs_scene.specs.Records.{StyleKeyRecord, ColoursRecord, CameraRecord, PegKeyRecord, PegRecord, ExposureRecord, SheetRecord}
 
 -- a row of an exposure sheet; rows count from 1
 abbrev pub IsRow : ℕ → Type 0

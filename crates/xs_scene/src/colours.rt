@@ -2,7 +2,7 @@ use crate::range::{is_reference, is_row};
 use std::marker::Model;
 use xs_pixel::{List, Style};
 
-/// From its row on, a style of a palette has another colour.
+/// A palette key: from its row on, a style of the palette has the colour `to`.
 #[derive(Clone, Copy, Debug, PartialEq, Eq)]
 pub struct StyleKey {
     pub row: u32,

@@ -2,11 +2,12 @@ use crate::range::{is_reference, is_reference_or_none, is_row};
 use std::marker::Model;
 use xs_pixel::List;
 
-/// What an exposure shows: a drawing by its level and its place in the level's list, held over the rows,
-/// or the rows of another sheet, which begin at `start`.
+/// What an exposure shows. Levels, drawings and sheets have numbers from 0.
 #[derive(Clone, Copy, Debug, PartialEq, Eq)]
 pub enum Shown {
+    /// Drawing `index` of the level, held over all rows of the exposure.
     Drawing { level: u32, index: u32 },
+    /// The rows of the sheet from `start` on, one for each row of the exposure.
     Sheet { sheet: u32, start: u32 },
 }
 
@@ -24,7 +25,8 @@ impl Shown {
     }
 }
 
-/// The cells of a column that show one drawing, or one run of rows of a sheet: rows `from` to `to`.
+/// The cells of a column that show one drawing, or one run of rows of a sheet: rows `from` to `to`, both
+/// included.
 #[derive(Clone, Copy, Debug, PartialEq, Eq)]
 pub struct Exposure {
     pub from: u32,

@@ -3,14 +3,16 @@ use crate::range::is_reference;
 use std::marker::Model;
 use xs_pixel::List;
 
-/// What the drawings of a level hold: pixels, or words that the palette with this number colours.
+/// What the drawings of a level hold.
 #[derive(Clone, Copy, Debug, PartialEq, Eq)]
 pub enum Kind {
+    /// Pixels: red, green, blue and matte.
     Colour,
+    /// CM32 words, coloured by the palette with this number.
     Cm32(u32),
 }
 
-/// A level: the files of its drawings.
+/// A level: the names of the files of its drawings, which are numbered from 0.
 #[derive(Debug, Drop)]
 pub struct Level {
     pub kind: Kind,

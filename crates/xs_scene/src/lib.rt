@@ -2,17 +2,17 @@
 //! palettes. Each type keeps its ranges; whether what a number names is there is not its concern.
 #![tactic(auto)]
 
-pub mod colours;
-pub mod column;
+mod colours;
+mod column;
 mod in_range;
-pub mod level;
-pub mod name;
-pub mod node;
-pub mod peg;
+mod level;
+mod name;
+mod node;
+mod peg;
 pub mod range;
-pub mod scene;
-pub mod seen;
-pub mod sheet;
+mod scene;
+mod seen;
+mod sheet;
 
 pub use colours::{Colours, StyleKey};
 pub use column::{Column, Exposure, Shown};

@@ -1,10 +1,14 @@
-ghost use Rattle.std.specs.Prelude.{◌≡◌, ◌↔◌, IsTrue, IfOk, string_bytes};
+ghost use Rattle.std.specs.Prelude.{◌≡◌, IfOk, string_bytes, slice_get};
+ghost use Rattle.std.specs.List.{list_all};
 ghost use Rattle.std.specs.Option.{SomeIff};
-ghost use Rattle.xs_scene.specs.Names.{is_name_byte, IsName};
+ghost use Rattle.xs_scene.specs.Names.{is_name_byte, begins_name, is_name, IsName};
 
 use std::alloc::Global;
 use std::marker::Model;
 use xs_pixel::Memory;
+
+/// The most bytes of a name.
+const LONGEST_NAME: usize = 200;
 
 /// A name of a file of the working folder: 1 to 200 ASCII letters, digits, spaces, `_`, `-` and `.`, the
 /// first neither `.` nor a space.
@@ -30,16 +34,26 @@ fn is_byte_of_name(byte: u8) -> bool
     byte.is_ascii_alphanumeric() || byte == b' ' || byte == b'_' || byte == b'-' || byte == b'.'
 }
 
-fn is_name(text: &[u8]) -> bool
-    ensures { IsTrue result ↔ IsName text.now }
+fn begins_name(text: &[u8]) -> bool
+    ensures { result ≡ begins_name (slice_get text.now 0) }
 {
-    let Some(&first) = text.first() else {
-        return false;
-    };
-    text.len() <= 200
-        && first != b'.'
-        && first != b' '
-        && text.iter().all(|&byte| is_byte_of_name(byte))
+    match text.first() {
+        Some(&first) => first != b'.' && first != b' ',
+        None => false,
+    }
+}
+
+fn has_only_name_bytes(text: &[u8]) -> bool
+    ensures { result ≡ list_all is_name_byte text.now }
+{
+    text.iter().all(|&byte| is_byte_of_name(byte))
+}
+
+#[tactic(auto, unfolding(crate::specs::Names::is_name))]
+fn is_name(text: &[u8]) -> bool
+    ensures { result ≡ is_name text.now }
+{
+    begins_name(text) && text.len() <= LONGEST_NAME && has_only_name_bytes(text)
 }
 
 impl Name {

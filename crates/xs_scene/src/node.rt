@@ -1,13 +1,15 @@
 ghost use Rattle.std.specs.Prelude.{◌↔◌, IsTrue, All};
 ghost use Rattle.xs_scene.specs.Ranges.{IsRow, IsFiltered};
 
-use crate::range::{is_reference, is_row};
+use crate::range::{GREATEST_RADIUS, MOST_STYLES, is_reference, is_row};
 use xs_pixel::{List, Op, Style};
 
 /// A column or a node of the same sheet, by its number from 0.
 #[derive(Clone, Copy, Debug, PartialEq, Eq)]
 pub enum Ref {
+    /// The column with this number, from the left.
     Column(u32),
+    /// The node with this number.
     Node(u32),
 }
 
@@ -51,7 +53,7 @@ fn are_rows(list: &List<u32>) -> bool
 fn are_styles(list: &List<u32>) -> bool
     ensures { IsTrue result ↔ All IsFiltered list.now }
 {
-    list.items().iter().all(|&style| style <= 4095)
+    list.items().iter().all(|&style| style < MOST_STYLES)
 }
 
 impl Node {
@@ -69,7 +71,9 @@ impl Node {
             } => first.is_in_range() && second.is_in_range(),
             Node::Card(_) => true,
             Node::Shuffle { input, list } => input.is_in_range() && are_rows(list),
-            Node::Blur { input, radius } => input.is_in_range() && 1 <= *radius && *radius <= 16,
+            Node::Blur { input, radius } => input.is_in_range()
+                && 1 <= *radius
+                && *radius <= GREATEST_RADIUS,
             Node::Keep { input, styles } => input.is_in_range() && are_styles(styles),
             Node::Delete { input, styles } => input.is_in_range() && are_styles(styles),
         }

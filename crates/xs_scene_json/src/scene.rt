@@ -14,6 +14,7 @@ use xs_json::{FieldFault, Path, SceneCode, fault_at};
 use xs_pixel::Memory;
 use xs_scene::Scene;
 use xs_scene_read::read_scene;
+use xs_scene_text::what_is_written_is_shallow;
 use xs_scene_write::write_scene;
 
 /// The value of a JSON text.
@@ -52,6 +53,7 @@ pub fn encode(alloc: Global, s: &Scene) -> Result<Vec<u8>, Memory>
     ensures text { IfOk result (λ bytes. bytes.items ≡ compact_text (scene_data s.now)) }
     ensures again { IfOk result (λ bytes. scene_of bytes.items ≡ Ok s.now) }
 {
+    what_is_written_is_shallow();
     let value = write_scene(alloc, s)?;
     let bytes = value.to_vec(alloc)?;
     Ok(bytes)

@@ -11,6 +11,7 @@ use crate::fields::{
 use serde_json::{Map, Value};
 use std::alloc::Global;
 use xs_json::{Field, FieldFault, Path, Place, object, optional};
+use xs_scene::range::LAST_ROW;
 use xs_scene::{Column, Exposure, Shown};
 
 /// The rows of a sheet that a cell shows.
@@ -28,7 +29,7 @@ fn shown_sheet(alloc: Global, map: &Map<String, Value>, at: &Path) -> Result<Sho
     )?;
     Ok(Shown::Sheet {
         sheet: reference_needed(alloc, map, at, Field::Sheet)?,
-        start: number_needed(alloc, map, at, Field::Start, 1, 9999)?,
+        start: number_needed(alloc, map, at, Field::Start, 1, LAST_ROW)?,
     })
 }
 
@@ -64,6 +65,10 @@ fn shown(alloc: Global, map: &Map<String, Value>, at: &Path) -> Result<Shown, Fi
 }
 
 impl Element for Exposure {
+    ghost use Rattle.xs_scene_text.specs.SceneText.{cell_at};
+
+    ghost reading = { λ _. cell_at };
+
     #[tactic(auto, unfolding(xs_scene_text::specs::SceneText::cell_at))]
     fn read(alloc: Global, _format: u32, v: &Value, place: &Place) -> Result<Self, FieldFault> {
         let at = place.path(alloc)?;
@@ -76,14 +81,18 @@ impl Element for Exposure {
             Field::Start,
         ];
         let map = object(alloc, v, &at, &fields, &[Field::From, Field::To])?;
-        let from = number_needed(alloc, map, &at, Field::From, 1, 9999)?;
-        let to = number_needed(alloc, map, &at, Field::To, from, 9999)?;
+        let from = number_needed(alloc, map, &at, Field::From, 1, LAST_ROW)?;
+        let to = number_needed(alloc, map, &at, Field::To, from, LAST_ROW)?;
         let shown = shown(alloc, map, &at)?;
         Ok(Exposure { from, to, shown })
     }
 }
 
 impl Element for Column {
+    ghost use Rattle.xs_scene_text.specs.SceneText.{column_at};
+
+    ghost reading = { λ _. column_at };
+
     #[tactic(auto, unfolding(xs_scene_text::specs::SceneText::column_at))]
     fn read(alloc: Global, format: u32, v: &Value, place: &Place) -> Result<Self, FieldFault> {
         let at = place.path(alloc)?;

@@ -1,16 +1,26 @@
-ghost use Rattle.std.specs.Prelude.{◌≡◌, ◌≤◌, IfOk, All};
+ghost use Rattle.std.specs.Prelude.{◌≡◌, ◌≤◌, ℕ, IfOk, All};
+ghost use Rattle.std.specs.Prelude.{List as Items};
+ghost use Rattle.serde_json.specs.Data.{Data};
 ghost use Rattle.serde_json.specs.View.{view, items_view};
-ghost use Rattle.xs_json.specs.Reading.{Gives};
+ghost use Rattle.xs_json.specs.Reading.{Reading, Gives};
 ghost use Rattle.xs_scene_text.specs.Fields.{each_at, list_of, number_at};
 
 use serde_json::Value;
 use std::alloc::Global;
 use xs_json::{FieldFault, Path, Place};
 use xs_pixel::List;
-use xs_scene_text::TextForm;
 
 /// What is read from a value of a scene text.
-pub trait Element: TextForm {
+pub trait Element: Sized + Drop {
+    /// What a value says, by the format of the text and the path where it stands.
+    ghost reading: { ℕ → Items ℕ → Data → Reading Self };
+
+    /// Its numbers are in range, where the type does not keep that itself.
+    ghost fits: { Self → Type 0 } = { λ _. Unit {0} };
+
+    /// Format 1 knows all that it has.
+    ghost plain: { Self → Type 0 } = { λ _. Unit {0} };
+
     /// The value at a place in a text of this format.
     fn read(alloc: Global, format: u32, v: &Value, place: &Place) -> Result<Self, FieldFault>
         ensures exact { Gives (λ x. x) result (Self.reading format place.now (view v.now)) }
@@ -41,6 +51,12 @@ fn each<E: Element>(
 }
 
 impl<E: Element> Element for List<E> {
+    ghost reading = { λ format. list_of (E.reading format) };
+
+    ghost fits = { All E.fits };
+
+    ghost plain = { All E.plain };
+
     fn read(alloc: Global, format: u32, v: &Value, place: &Place) -> Result<Self, FieldFault> {
         let values = place.list(alloc, v)?;
         let at = place.path(alloc)?;

@@ -11,6 +11,7 @@ use xs_json::{
     Field, FieldFault, Path, Place, SceneCode, all_there, fault_at, has_any, optional, required,
 };
 use xs_pixel::List;
+use xs_scene::range::GREATEST_REFERENCE;
 
 /// A field that is needed.
 pub fn needed<E: Element>(
@@ -111,7 +112,7 @@ pub fn reference_needed(
         (field k reference_at at.now (members_view map.now.entries)) }
     ensures range { IfOk result (λ n. n ≤ 1000000000) }
 {
-    number_needed(alloc, map, at, k, 0, 1_000_000_000)
+    number_needed(alloc, map, at, k, 0, GREATEST_REFERENCE)
 }
 
 /// The number of a peg, if it is there.
@@ -126,7 +127,7 @@ pub fn reference_if_there(
     ensures range { IfOk result (λ o. IfSome o (λ n. n ≤ 1000000000)) }
 {
     match optional(map, k) {
-        Some(v) => Ok(Some(number(alloc, v, &Place::key(at, k), 0, 1_000_000_000)?)),
+        Some(v) => Ok(Some(number(alloc, v, &Place::key(at, k), 0, GREATEST_REFERENCE)?)),
         None => Ok(None),
     }
 }

@@ -13,7 +13,11 @@ use xs_json::{Field, FieldFault, Path, Place, SceneCode, object, required};
 use xs_scene::{Kind, Level, Name};
 
 impl Element for Name {
-    #[tactic(auto, unfolding(xs_scene_text::specs::SceneText::name_at), using(xs_scene::proofs::NameTest::is_name_holds, xs_scene::proofs::NameTest::is_name_fails))]
+    ghost use Rattle.xs_scene_text.specs.SceneText.{name_at};
+
+    ghost reading = { λ _. name_at };
+
+    #[tactic(auto, unfolding(xs_scene_text::specs::SceneText::name_at))]
     fn read(alloc: Global, _format: u32, v: &Value, place: &Place) -> Result<Self, FieldFault> {
         let text = String::from_str(alloc, place.text(alloc, v)?)?;
         match Name::new(text) {
@@ -50,6 +54,10 @@ fn kind(alloc: Global, map: &Map<String, Value>, at: &Path, cm32: bool) -> Resul
 }
 
 impl Element for Level {
+    ghost use Rattle.xs_scene_text.specs.SceneText.{level_at};
+
+    ghost reading = { λ _. level_at };
+
     #[tactic(auto, unfolding(xs_scene_text::specs::SceneText::level_at))]
     fn read(alloc: Global, format: u32, v: &Value, place: &Place) -> Result<Self, FieldFault> {
         let at = place.path(alloc)?;

@@ -11,6 +11,7 @@ use serde_json::{Map, Value};
 use std::alloc::Global;
 use xs_json::{Field, FieldFault, Path, Place, SceneCode, fault_at, object, optional, required};
 use xs_pixel::{List, Op};
+use xs_scene::range::{GREATEST_RADIUS, LAST_ROW, MOST_STYLES};
 use xs_scene::{Node, Ref};
 use xs_scene_text::{Work, work_named};
 
@@ -46,6 +47,13 @@ fn target(alloc: Global, map: &Map<String, Value>, at: &Path) -> Result<Ref, Fie
 }
 
 impl Element for Ref {
+    ghost use Rattle.xs_scene.specs.Ranges.{IsRef};
+    ghost use Rattle.xs_scene_text.specs.SceneText.{ref_at};
+
+    ghost reading = { λ _. ref_at };
+
+    ghost fits = { IsRef };
+
     #[tactic(auto, unfolding(xs_scene_text::specs::SceneText::ref_at))]
     fn read(alloc: Global, _format: u32, v: &Value, place: &Place) -> Result<Self, FieldFault> {
         let at = place.path(alloc)?;
@@ -93,7 +101,7 @@ fn shuffle(alloc: Global, v: &Value, at: &Path) -> Result<Node, FieldFault>
     let map = object(alloc, v, at, &fields, &fields)?;
     Ok(Node::Shuffle {
         input: needed(alloc, 1, map, at, Field::Input)?,
-        list: numbers_needed(alloc, map, at, Field::List, 1, 9999)?,
+        list: numbers_needed(alloc, map, at, Field::List, 1, LAST_ROW)?,
     })
 }
 
@@ -107,7 +115,7 @@ fn blur(alloc: Global, v: &Value, at: &Path) -> Result<Node, FieldFault>
     let map = object(alloc, v, at, &fields, &fields)?;
     Ok(Node::Blur {
         input: needed(alloc, 1, map, at, Field::Input)?,
-        radius: number_needed(alloc, map, at, Field::Radius, 1, 16)?,
+        radius: number_needed(alloc, map, at, Field::Radius, 1, GREATEST_RADIUS)?,
     })
 }
 
@@ -121,7 +129,7 @@ fn filter(alloc: Global, v: &Value, at: &Path) -> Result<(Ref, List<u32>), Field
     let fields = [Field::Op, Field::Input, Field::Styles];
     let map = object(alloc, v, at, &fields, &fields)?;
     let input = needed(alloc, 1, map, at, Field::Input)?;
-    let styles = numbers_needed(alloc, map, at, Field::Styles, 0, 4095)?;
+    let styles = numbers_needed(alloc, map, at, Field::Styles, 0, MOST_STYLES - 1)?;
     Ok((input, styles))
 }
 
@@ -176,6 +184,15 @@ fn node(alloc: Global, v: &Value, at: &Path, work: Work) -> Result<Node, FieldFa
 }
 
 impl Element for Node {
+    ghost use Rattle.xs_scene.specs.Ranges.{IsNode, IsOldNode};
+    ghost use Rattle.xs_scene_text.specs.SceneText.{node_at};
+
+    ghost reading = { node_at };
+
+    ghost fits = { IsNode };
+
+    ghost plain = { IsOldNode };
+
     #[tactic(auto, unfolding(xs_scene_text::specs::SceneText::node_at))]
     fn read(alloc: Global, format: u32, v: &Value, place: &Place) -> Result<Self, FieldFault> {
         let at = place.path(alloc)?;

@@ -9,6 +9,7 @@ use serde_json::Value;
 use std::alloc::Global;
 use xs_json::{Field, FieldFault, Path, Place, SceneCode, fault_at, object};
 use xs_pixel::{List, Style};
+use xs_scene::range::LAST_ROW;
 use xs_scene::{Colours, StyleKey};
 
 /// The four elements of the list at a place.
@@ -34,6 +35,10 @@ fn channel(alloc: Global, v: &Value, at: &Path, i: u32) -> Result<u8, FieldFault
 }
 
 impl Element for Style {
+    ghost use Rattle.xs_scene_text.specs.SceneText.{style_at};
+
+    ghost reading = { λ _. style_at };
+
     #[tactic(auto, unfolding(xs_scene_text::specs::SceneText::style_at))]
     fn read(alloc: Global, _format: u32, v: &Value, place: &Place) -> Result<Self, FieldFault> {
         let _four = four(alloc, v, place)?;
@@ -48,13 +53,17 @@ impl Element for Style {
 }
 
 impl Element for StyleKey {
+    ghost use Rattle.xs_scene_text.specs.SceneText.{style_key_at};
+
+    ghost reading = { λ _. style_key_at };
+
     #[tactic(auto, unfolding(xs_scene_text::specs::SceneText::style_key_at))]
     fn read(alloc: Global, format: u32, v: &Value, place: &Place) -> Result<Self, FieldFault> {
         let at = place.path(alloc)?;
         let fields = [Field::Row, Field::Style, Field::Rgba];
         let map = object(alloc, v, &at, &fields, &fields)?;
         Ok(StyleKey {
-            row: number_needed(alloc, map, &at, Field::Row, 1, 9999)?,
+            row: number_needed(alloc, map, &at, Field::Row, 1, LAST_ROW)?,
             style: reference_needed(alloc, map, &at, Field::Style)?,
             to: needed(alloc, format, map, &at, Field::Rgba)?,
         })
@@ -103,6 +112,13 @@ fn keyed_palette(
 }
 
 impl Element for Colours {
+    ghost use Rattle.xs_scene.specs.Ranges.{HasNoKey};
+    ghost use Rattle.xs_scene_text.specs.SceneText.{palette_at};
+
+    ghost reading = { palette_at };
+
+    ghost plain = { HasNoKey };
+
     fn read(alloc: Global, format: u32, v: &Value, place: &Place) -> Result<Self, FieldFault> {
         if format == 2 && v.is_object() {
             keyed_palette(alloc, format, v, place)

@@ -10,6 +10,7 @@ use crate::fields::{flag_or_false, list_or_empty, none_of, number_needed, refere
 use serde_json::{Map, Value};
 use std::alloc::Global;
 use xs_json::{Field, FieldFault, Path, Place, SceneCode, fault_at, object, required};
+use xs_scene::range::{FARTHEST_OFFSET, LAST_ROW};
 use xs_scene::{Peg, PegKey};
 
 /// Whether the value is a number that an `i64` does not hold.
@@ -30,7 +31,12 @@ fn offset(alloc: Global, map: &Map<String, Value>, at: &Path, k: Field) -> Resul
     if is_other_number(v) {
         return Err(place.fault(alloc, SceneCode::Placement));
     }
-    Ok(place.whole(alloc, v, -65536, 65536)? as i32)
+    Ok(place.whole(
+        alloc,
+        v,
+        -i64::from(FARTHEST_OFFSET),
+        i64::from(FARTHEST_OFFSET),
+    )? as i32)
 }
 
 /// The members of a peg key, which may not turn, scale or shear: Placement where it has a key for that.
@@ -76,6 +82,13 @@ fn line(alloc: Global, format: u32, map: &Map<String, Value>, at: &Path) -> Resu
 }
 
 impl Element for PegKey {
+    ghost use Rattle.std.specs.Prelude.{◌≡◌, false};
+    ghost use Rattle.xs_scene_text.specs.SceneText.{peg_key_at};
+
+    ghost reading = { peg_key_at };
+
+    ghost plain = { λ key. key.line ≡ false };
+
     #[tactic(auto, unfolding(xs_scene_text::specs::SceneText::peg_key_at))]
     fn read(alloc: Global, format: u32, v: &Value, place: &Place) -> Result<Self, FieldFault> {
         let at = place.path(alloc)?;
@@ -88,7 +101,7 @@ impl Element for PegKey {
             &[Field::Row, Field::X, Field::Y],
         )?;
         Ok(PegKey {
-            row: number_needed(alloc, map, &at, Field::Row, 1, 9999)?,
+            row: number_needed(alloc, map, &at, Field::Row, 1, LAST_ROW)?,
             x: offset(alloc, map, &at, Field::X)?,
             y: offset(alloc, map, &at, Field::Y)?,
             line: line(alloc, format, map, &at)?,
@@ -97,7 +110,14 @@ impl Element for PegKey {
 }
 
 impl Element for Peg {
-    #[tactic(auto, unfolding(xs_scene_text::specs::SceneText::peg_at, xs_scene::specs::Ranges::HasNoLine))]
+    ghost use Rattle.xs_scene.specs.Ranges.{HasNoLine};
+    ghost use Rattle.xs_scene_text.specs.SceneText.{peg_at};
+
+    ghost reading = { peg_at };
+
+    ghost plain = { HasNoLine };
+
+    #[tactic(auto, unfolding(xs_scene_text::specs::SceneText::peg_at))]
     fn read(alloc: Global, format: u32, v: &Value, place: &Place) -> Result<Self, FieldFault> {
         let at = place.path(alloc)?;
         let map = object(alloc, v, &at, &[Field::Parent, Field::Keys], &[])?;

@@ -7,17 +7,22 @@ use crate::fields::{needed, number_needed, reference_if_there};
 use serde_json::Value;
 use std::alloc::Global;
 use xs_json::{Field, FieldFault, Path, Place, object};
+use xs_scene::range::LONGEST_SIDE;
 use xs_scene::{Camera, Scene};
 
 impl Element for Camera {
+    ghost use Rattle.xs_scene_text.specs.SceneText.{camera_at};
+
+    ghost reading = { λ _. camera_at };
+
     #[tactic(auto, unfolding(xs_scene_text::specs::SceneText::camera_at))]
     fn read(alloc: Global, _format: u32, v: &Value, place: &Place) -> Result<Self, FieldFault> {
         let at = place.path(alloc)?;
         let fields = [Field::W, Field::H, Field::Peg];
         let map = object(alloc, v, &at, &fields, &[Field::W, Field::H])?;
         Ok(Camera {
-            w: number_needed(alloc, map, &at, Field::W, 1, 4096)?,
-            h: number_needed(alloc, map, &at, Field::H, 1, 4096)?,
+            w: number_needed(alloc, map, &at, Field::W, 1, LONGEST_SIDE)?,
+            h: number_needed(alloc, map, &at, Field::H, 1, LONGEST_SIDE)?,
             peg: reference_if_there(alloc, map, &at, Field::Peg)?,
         })
     }

@@ -6,7 +6,14 @@ use xs_json::{Field, FieldFault, Place, object};
 use xs_scene::Sheet;
 
 impl Element for Sheet {
-    #[tactic(auto, unfolding(xs_scene_text::specs::SceneText::sheet_at, xs_scene::specs::Ranges::HasNoLines, xs_scene::specs::Ranges::HasOldNodes))]
+    ghost use Rattle.xs_scene.specs.Ranges.{HasNoLines, HasOldNodes};
+    ghost use Rattle.xs_scene_text.specs.SceneText.{sheet_at};
+
+    ghost reading = { sheet_at };
+
+    ghost plain = { λ sheet. HasNoLines sheet × HasOldNodes sheet };
+
+    #[tactic(auto, unfolding(xs_scene_text::specs::SceneText::sheet_at))]
     fn read(alloc: Global, format: u32, v: &Value, place: &Place) -> Result<Self, FieldFault> {
         let at = place.path(alloc)?;
         let fields = [Field::Pegs, Field::Columns, Field::Nodes, Field::Out];

@@ -1,6 +1,5 @@
 -- A list is read again if its elements are.
-use Rattle.std.proofs.Common.{◌≡◌, ℕ, ◌+◌, List, [], ◌∷◌, map, All, Result, Ok, Err, refl}
-use Rattle.std.specs.Prelude.{OnOk}
+use Rattle.std.proofs.Common.{◌≡◌, ℕ, ◌+◌, List, [], ◌∷◌, map, All, Ok, refl}
 use Rattle.std.proofs.lemmas.List.Elements.{All-head, All-tail}
 use Rattle.serde_json.specs.Data.{Data}
 use Rattle.serde_json.specs.View.{items_of}
@@ -19,12 +18,3 @@ each_again reading written (x ∷ xs) at i again =
 pub list_again : {A : Type 0} (reading : List ℕ → Data → Reading A) (written : A → Data) (xs : List A)
     → All (IsReadAgain reading written) xs → IsReadAgain (list_of reading) (list_data written) xs
 list_again reading written xs again at = each_again reading written xs at 0 again
-
--- a fact holds on Ok if it holds at all
-pub on_ok : {A E P : Type 0} (r : Result A E) → P → OnOk r P
-on_ok (Ok x) p = p
-on_ok (Err e) p = tt
-
-pub on_ok_then : {A E P Q : Type 0} (r : Result A E) → (P → Q) → OnOk r P → OnOk r Q
-on_ok_then (Ok x) next p = next p
-on_ok_then (Err e) next p = tt

@@ -8,7 +8,8 @@ use Rattle.xs_pixel.specs.declared.style.Style.{Style}
 use Rattle.xs_json.specs.Objects.{whole_at}
 use Rattle.xs_scene.specs.Records.{StyleKeyRecord, ColoursRecord, CameraRecord, LevelRecord, PegKeyRecord, PegRecord, ExposureRecord, ColumnRecord}
 use Rattle.xs_scene.specs.Names.{IsName}
-use Rattle.xs_scene.specs.Ranges.{IsRow, IsReference, IsSide, IsOffset, IsCamera, IsStyleKey, IsKind, IsPegKey, IsShown, IsExposure}
+use Rattle.xs_scene.specs.Ranges.{IsRow, IsReference, IsSide, IsOffset, IsCamera, IsKind, IsPegKey, IsShown, IsExposure, HasNoKey, HasNoLine}
+use Rattle.xs_scene.specs.InRange.{IsStyle, StyleKeyInRange, ColoursInRange, LevelInRange, PegInRange, ColumnInRange}
 use Rattle.xs_scene.specs.declared.level.Kind.{Kind}
 use Rattle.xs_scene.specs.declared.level.Kind.TheVariants as kind
 use Rattle.xs_scene.specs.declared.column.Shown.{Shown}
@@ -16,14 +17,14 @@ use Rattle.xs_scene.specs.declared.column.Shown.TheVariants as shown
 use Rattle.xs_scene_text.specs.Fields.{number_at, row_at, reference_at, offset_at, list_of}
 use Rattle.xs_scene_text.specs.SceneText.{is_newer, camera_at, style_at, style_key_at, plain_palette_at, keyed_palette_at, palette_at, name_at, level_at, peg_key_at, peg_at, shown_sheet_at, shown_drawing_at, cell_at, column_at}
 use Rattle.xs_scene_text.specs.SceneData.{IsReadAgain, number_data, offset_data, list_data, camera_data, style_data, style_key_data, palette_data, level_data, peg_key_data, peg_data, cell_data, column_data}
-use Rattle.xs_scene.proofs.NameTest.{is_name_holds}
+use Rattle.xs_scene_text.proofs.Again.{list_again}
 
 -- ---- numbers
 
 pub number_again : (least most n : ℕ) (at : List ℕ) → least ≤ n → n ≤ most → n < 2 ^ 63 → number_at least most at (number_data n) ≡ Ok n
 number_again least most n at above below fits = rw (lt-ltb n (2 ^ 63) fits, le-ltb n least above, le-ltb most n below) refl
 
-pub row_again : (n : ℕ) (at : List ℕ) → IsRow n → row_at at (number_data n) ≡ Ok n
+row_again : (n : ℕ) (at : List ℕ) → IsRow n → row_at at (number_data n) ≡ Ok n
 row_again n at is = number_again 1 9999 n at is.0 is.1 (omega arith)
 
 pub reference_again : (n : ℕ) (at : List ℕ) → IsReference n → reference_at at (number_data n) ≡ Ok n
@@ -32,8 +33,8 @@ reference_again n at is = number_again 0 1000000000 n at (omega arith) is (omega
 side_again : (n : ℕ) (at : List ℕ) → IsSide n → number_at 1 4096 at (number_data n) ≡ Ok n
 side_again n at is = number_again 1 4096 n at is.0 is.1 (omega arith)
 
-channel_again : (n : ℕ) (at : List ℕ) → n < 256 → number_at 0 255 at (number_data n) ≡ Ok n
-channel_again n at fits = number_again 0 255 n at (omega arith) (omega arith) (omega arith)
+channel_again : (n : ℕ) (at : List ℕ) → n ≤ 255 → number_at 0 255 at (number_data n) ≡ Ok n
+channel_again n at is = number_again 0 255 n at (omega arith) is (omega arith)
 
 right_again : (n : ℕ) (at : List ℕ) → n ≤ 65536 → n < 2 ^ 63 → whole_at (negsuc 65535) (pos 65536) at (offset_data (pos n)) ≡ Ok (pos n)
 right_again n at small fits = rw (lt-ltb n (2 ^ 63) fits, le-ltb 65536 n small) refl
@@ -59,13 +60,13 @@ camera_peg_again w h (Some peg) at is_w is_h is_peg = rw (side_again w _ is_w, s
 pub camera_again : (camera : CameraRecord) → IsCamera camera → IsReadAgain camera_at camera_data camera
 camera_again camera is at = camera_peg_again camera.w camera.h camera.peg at is.w is.h is.peg
 
-pub style_again : (style : Style) → style.r < 256 → style.g < 256 → style.b < 256 → style.a < 256 → IsReadAgain style_at style_data style
+pub style_again : (style : Style) → IsStyle style → IsReadAgain style_at style_data style
 unfolding style_at style_data
-style_again style r g b a at = rw (channel_again style.r _ r, channel_again style.g _ g, channel_again style.b _ b, channel_again style.a _ a) refl
+style_again style is at = rw (channel_again style.r _ is.r, channel_again style.g _ is.g, channel_again style.b _ is.b, channel_again style.a _ is.a) refl
 
-pub style_key_again : (key : StyleKeyRecord) → IsStyleKey key → IsReadAgain style_at style_data key.to → IsReadAgain style_key_at style_key_data key
+style_key_again : (key : StyleKeyRecord) → StyleKeyInRange key → IsReadAgain style_key_at style_key_data key
 unfolding style_key_at style_key_data
-style_key_again key is to at = rw (row_again key.row _ is.row, reference_again key.style _ is.style, to _) refl
+style_key_again key is at = rw (row_again key.row _ is.numbers.row, reference_again key.style _ is.numbers.style, style_again key.to is.to _) refl
 
 palette_keys_again : (format : ℕ) (styles : List Style) (keys : List StyleKeyRecord) (at : List ℕ) → (is_newer format ≡ false → keys ≡ [])
     → IsReadAgain (list_of style_at) (list_data style_data) styles → IsReadAgain (list_of style_key_at) (list_data style_key_data) keys
@@ -80,16 +81,17 @@ palette_keys_again format styles (key ∷ keys) at known styles_again keys_again
   | inr older ↦ absurd (let none : key ∷ keys ≡ [] = known older in cc)
 ]
 
-pub palette_again : (format : ℕ) (palette : ColoursRecord) → (is_newer format ≡ false → palette.keys ≡ [])
-    → IsReadAgain (list_of style_at) (list_data style_data) palette.styles → IsReadAgain (list_of style_key_at) (list_data style_key_data) palette.keys
-    → IsReadAgain (palette_at format) palette_data palette
-palette_again format palette known styles_again keys_again at = palette_keys_again format palette.styles palette.keys at known styles_again keys_again
+pub palette_again : (format : ℕ) (palette : ColoursRecord) → ColoursInRange palette → (is_newer format ≡ false → HasNoKey palette) → IsReadAgain (palette_at format) palette_data palette
+palette_again format palette is known at =
+    palette_keys_again format palette.styles palette.keys at known
+    (list_again style_at style_data palette.styles (λ k d lt. style_again _ (is.styles k d lt)))
+    (list_again style_key_at style_key_data palette.keys (λ k d lt. style_key_again _ (is.keys k d lt)))
 
 -- ---- levels
 
-pub name_again : (text : List ℕ) → IsName text → IsReadAgain name_at string text
+name_again : (text : List ℕ) → IsName text → IsReadAgain name_at string text
 unfolding name_at
-name_again text is at = rw (is_name_holds text is) refl
+name_again text is at = rw is refl
 
 level_kind_again : (kind : Kind) (drawings : List (List ℕ)) (at : List ℕ) → IsKind kind → IsReadAgain (list_of name_at) (list_data string) drawings
     → level_at at (level_data (record { kind = kind; drawings = drawings })) ≡ Ok (record { kind = kind; drawings = drawings })
@@ -97,8 +99,10 @@ unfolding level_at level_data
 level_kind_again kind.Colour drawings at is drawings_again = rw (drawings_again _) refl
 level_kind_again (kind.Cm32 palette) drawings at is drawings_again = rw (reference_again palette _ is, drawings_again _) refl
 
-pub level_again : (level : LevelRecord) → IsKind level.kind → IsReadAgain (list_of name_at) (list_data string) level.drawings → IsReadAgain level_at level_data level
-level_again level is drawings_again at = level_kind_again level.kind level.drawings at is drawings_again
+pub level_again : (level : LevelRecord) → LevelInRange level → IsReadAgain level_at level_data level
+level_again level is at =
+    level_kind_again level.kind level.drawings at is.kind
+    (list_again name_at string level.drawings (λ k d lt. name_again _ (is.drawings k d lt)))
 
 -- ---- pegs
 
@@ -114,7 +118,7 @@ peg_key_line_again format row x y true at is_row is_x is_y known = elim (cases_B
   | inr older ↦ absurd (true≢false (known older))
 ]
 
-pub peg_key_again : (format : ℕ) (key : PegKeyRecord) → IsPegKey key → (is_newer format ≡ false → key.line ≡ false) → IsReadAgain (peg_key_at format) peg_key_data key
+peg_key_again : (format : ℕ) (key : PegKeyRecord) → IsPegKey key → (is_newer format ≡ false → key.line ≡ false) → IsReadAgain (peg_key_at format) peg_key_data key
 peg_key_again format key is known at = peg_key_line_again format key.row key.x key.y key.line at is.row is.x is.y known
 
 peg_fields_again : (format : ℕ) (parent : Option ℕ) (keys : List PegKeyRecord) (at : List ℕ) → IfSome parent IsReference
@@ -126,9 +130,11 @@ peg_fields_again format None (key ∷ keys) at is keys_again = rw (keys_again _)
 peg_fields_again format (Some parent) [] at is keys_again = rw (reference_again parent _ is) refl
 peg_fields_again format (Some parent) (key ∷ keys) at is keys_again = rw (reference_again parent _ is, keys_again _) refl
 
-pub peg_again : (format : ℕ) (peg : PegRecord) → IfSome peg.parent IsReference → IsReadAgain (list_of (peg_key_at format)) (list_data peg_key_data) peg.keys
-    → IsReadAgain (peg_at format) peg_data peg
-peg_again format peg is keys_again at = peg_fields_again format peg.parent peg.keys at is keys_again
+pub peg_again : (format : ℕ) (peg : PegRecord) → PegInRange peg → (is_newer format ≡ false → HasNoLine peg) → IsReadAgain (peg_at format) peg_data peg
+unfolding HasNoLine
+peg_again format peg is known at =
+    peg_fields_again format peg.parent peg.keys at is.parent
+    (list_again (peg_key_at format) peg_key_data peg.keys (λ k d lt. peg_key_again format _ (is.keys k d lt) (λ older. known older k d lt)))
 
 -- ---- columns
 
@@ -143,7 +149,7 @@ cell_shown_again from to (shown.Drawing level index) at is_from is_to rows is =
 cell_shown_again from to (shown.Sheet sheet start) at is_from is_to rows is =
     rw (row_again from _ is_from, until_again from to _ rows is_to, reference_again sheet _ is.0, row_again start _ is.1) refl
 
-pub cell_again : (cell : ExposureRecord) → IsExposure cell → IsReadAgain cell_at cell_data cell
+cell_again : (cell : ExposureRecord) → IsExposure cell → IsReadAgain cell_at cell_data cell
 cell_again cell is at = cell_shown_again cell.from cell.to cell.shown at is.from is.to is.rows is.shown
 
 column_fields_again : (peg : Option ℕ) (off : Bool) (cells : List ExposureRecord) (at : List ℕ) → IfSome peg IsReference → IsReadAgain (list_of cell_at) (list_data cell_data) cells
@@ -154,5 +160,7 @@ column_fields_again None true cells at is cells_again = rw (cells_again _) refl
 column_fields_again (Some peg) false cells at is cells_again = rw (reference_again peg _ is, cells_again _) refl
 column_fields_again (Some peg) true cells at is cells_again = rw (reference_again peg _ is, cells_again _) refl
 
-pub column_again : (column : ColumnRecord) → IfSome column.peg IsReference → IsReadAgain (list_of cell_at) (list_data cell_data) column.cells → IsReadAgain column_at column_data column
-column_again column is cells_again at = column_fields_again column.peg column.off column.cells at is cells_again
+pub column_again : (column : ColumnRecord) → ColumnInRange column → IsReadAgain column_at column_data column
+column_again column is at =
+    column_fields_again column.peg column.off column.cells at is.peg
+    (list_again cell_at cell_data column.cells (λ k d lt. cell_again _ (is.cells k d lt)))

@@ -7,15 +7,21 @@ use xs_pixel::Op;
 /// What a node does with its inputs, as the word at its `op` says.
 #[derive(Clone, Copy, Debug)]
 pub enum Work {
+    /// It composes two inputs by the operation.
     Pair(Op),
+    /// It shows one style everywhere.
     Card,
+    /// It shows its input at other rows.
     Shuffle,
+    /// It takes the mean of its input over squares.
     Blur,
+    /// It shows its input without the styles that are not listed.
     Keep,
+    /// It shows its input without the listed styles.
     Delete,
 }
 
-/// The work that a word means in a text of this format.
+/// The work that a word means in a text of this format, 1 or 2; None for a word that means none there.
 pub fn work_named(format: u32, word: &str) -> Option<Work>
     ensures { result ≡ work_of format word.now }
 {

@@ -26,8 +26,12 @@ fn put_shown(map: &mut Map<String, Value>, alloc: Global, shown: Shown) -> Resul
 }
 
 impl Written for Exposure {
+    ghost use Rattle.xs_scene_text.specs.SceneData.{cell_data};
+
+    ghost writing = { cell_data };
+
     #[tactic(auto, unfolding(xs_scene_text::specs::SceneData::cell_data))]
-    fn write(&self, alloc: Global, _format: u32) -> Result<Value, Memory> {
+    fn write(&self, alloc: Global) -> Result<Value, Memory> {
         let mut map = Map::new(alloc);
         put_number(&mut map, alloc, Field::From, self.from)?;
         put_number(&mut map, alloc, Field::To, self.to)?;
@@ -37,12 +41,16 @@ impl Written for Exposure {
 }
 
 impl Written for Column {
+    ghost use Rattle.xs_scene_text.specs.SceneData.{column_data};
+
+    ghost writing = { column_data };
+
     #[tactic(auto, unfolding(xs_scene_text::specs::SceneData::column_data))]
-    fn write(&self, alloc: Global, format: u32) -> Result<Value, Memory> {
+    fn write(&self, alloc: Global) -> Result<Value, Memory> {
         let mut map = Map::new(alloc);
         put_number_if_some(&mut map, alloc, Field::Peg, self.peg)?;
         put_if_true(&mut map, alloc, Field::Off, self.off)?;
-        let cells = write_list(alloc, format, &self.cells)?;
+        let cells = write_list(alloc, &self.cells)?;
         put(&mut map, alloc, Field::Cells, cells)?;
         Ok(Value::from(map))
     }

@@ -10,7 +10,11 @@ use xs_pixel::Memory;
 use xs_scene::{Kind, Level, Name};
 
 impl Written for Name {
-    fn write(&self, alloc: Global, _format: u32) -> Result<Value, Memory> {
+    ghost use Rattle.serde_json.specs.Data.{string};
+
+    ghost writing = { string };
+
+    fn write(&self, alloc: Global) -> Result<Value, Memory> {
         Ok(Value::try_from_str(alloc, self.text())?)
     }
 }
@@ -29,11 +33,15 @@ fn put_kind(map: &mut Map<String, Value>, alloc: Global, kind: Kind) -> Result<(
 }
 
 impl Written for Level {
+    ghost use Rattle.xs_scene_text.specs.SceneData.{level_data};
+
+    ghost writing = { level_data };
+
     #[tactic(auto, unfolding(xs_scene_text::specs::SceneData::level_data))]
-    fn write(&self, alloc: Global, format: u32) -> Result<Value, Memory> {
+    fn write(&self, alloc: Global) -> Result<Value, Memory> {
         let mut map = Map::new(alloc);
         put_kind(&mut map, alloc, self.kind)?;
-        let drawings = write_list(alloc, format, &self.drawings)?;
+        let drawings = write_list(alloc, &self.drawings)?;
         put(&mut map, alloc, Field::Drawings, drawings)?;
         Ok(Value::from(map))
     }

@@ -1,8 +1,7 @@
-ghost use Rattle.std.specs.Prelude.{◌≡◌, IfOk, OnOk};
+ghost use Rattle.std.specs.Prelude.{◌≡◌, IfOk};
 ghost use Rattle.serde_json.specs.View.{view};
 ghost use Rattle.xs_scene.specs.declared.node.Node.TheVariants as node;
-ghost use Rattle.xs_scene_text.specs.SceneData.{IsReadAgain, style_data, ref_data, listed_data, node_data};
-ghost use Rattle.xs_scene_text.specs.SceneText.{style_at};
+ghost use Rattle.xs_scene_text.specs.SceneData.{ref_data, listed_data, node_data};
 
 use crate::written::{Written, put, put_number, put_text, write_numbers};
 use serde_json::{Map, Value};
@@ -25,7 +24,11 @@ fn write_ref(alloc: Global, target: Ref) -> Result<Value, Memory>
 }
 
 impl Written for Ref {
-    fn write(&self, alloc: Global, _format: u32) -> Result<Value, Memory> {
+    ghost use Rattle.xs_scene_text.specs.SceneData.{ref_data};
+
+    ghost writing = { ref_data };
+
+    fn write(&self, alloc: Global) -> Result<Value, Memory> {
         write_ref(alloc, *self)
     }
 }
@@ -43,12 +46,11 @@ fn write_pair(alloc: Global, op: Op, first: Ref, second: Ref) -> Result<Value, M
 
 /// The value that is written for a node of one colour.
 fn write_card(alloc: Global, style: Style) -> Result<Value, Memory>
-    ensures value { IfOk result (λ v. view v ≡ node_data (node.Card style)) }
-    ensures again { OnOk result (IsReadAgain style_at style_data style) }
+    ensures { IfOk result (λ v. view v ≡ node_data (node.Card style)) }
 {
     let mut map = Map::new(alloc);
     put_text(&mut map, alloc, Field::Op, "card")?;
-    put(&mut map, alloc, Field::Rgba, style.write(alloc, 1)?)?;
+    put(&mut map, alloc, Field::Rgba, style.write(alloc)?)?;
     Ok(Value::from(map))
 }
 
@@ -81,7 +83,11 @@ fn write_listed(
 }
 
 impl Written for Node {
-    fn write(&self, alloc: Global, _format: u32) -> Result<Value, Memory> {
+    ghost use Rattle.xs_scene_text.specs.SceneData.{node_data};
+
+    ghost writing = { node_data };
+
+    fn write(&self, alloc: Global) -> Result<Value, Memory> {
         match self {
             Node::Pair { op, first, second } => write_pair(alloc, *op, *first, *second),
             Node::Card(style) => write_card(alloc, *style),

@@ -6,8 +6,12 @@ use xs_pixel::Memory;
 use xs_scene::{Peg, PegKey};
 
 impl Written for PegKey {
+    ghost use Rattle.xs_scene_text.specs.SceneData.{peg_key_data};
+
+    ghost writing = { peg_key_data };
+
     #[tactic(auto, unfolding(xs_scene_text::specs::SceneData::peg_key_data))]
-    fn write(&self, alloc: Global, _format: u32) -> Result<Value, Memory> {
+    fn write(&self, alloc: Global) -> Result<Value, Memory> {
         let mut map = Map::new(alloc);
         put_number(&mut map, alloc, Field::Row, self.row)?;
         put(&mut map, alloc, Field::X, Value::from(self.x))?;
@@ -18,11 +22,15 @@ impl Written for PegKey {
 }
 
 impl Written for Peg {
-    #[tactic(auto, unfolding(xs_scene_text::specs::SceneData::peg_data, xs_scene::specs::Ranges::HasNoLine))]
-    fn write(&self, alloc: Global, format: u32) -> Result<Value, Memory> {
+    ghost use Rattle.xs_scene_text.specs.SceneData.{peg_data};
+
+    ghost writing = { peg_data };
+
+    #[tactic(auto, unfolding(xs_scene_text::specs::SceneData::peg_data))]
+    fn write(&self, alloc: Global) -> Result<Value, Memory> {
         let mut map = Map::new(alloc);
         put_number_if_some(&mut map, alloc, Field::Parent, self.parent)?;
-        put_list_if_any(&mut map, alloc, format, Field::Keys, &self.keys)?;
+        put_list_if_any(&mut map, alloc, Field::Keys, &self.keys)?;
         Ok(Value::from(map))
     }
 }

@@ -9,10 +9,15 @@ use std::alloc::Global;
 use xs_json::Field;
 use xs_pixel::Memory;
 use xs_scene::{Camera, Scene};
+use xs_scene_text::what_is_written_is_read_again;
 
 impl Written for Camera {
+    ghost use Rattle.xs_scene_text.specs.SceneData.{camera_data};
+
+    ghost writing = { camera_data };
+
     #[tactic(auto, unfolding(xs_scene_text::specs::SceneData::camera_data))]
-    fn write(&self, alloc: Global, _format: u32) -> Result<Value, Memory> {
+    fn write(&self, alloc: Global) -> Result<Value, Memory> {
         let mut map = Map::new(alloc);
         put_number(&mut map, alloc, Field::W, self.w)?;
         put_number(&mut map, alloc, Field::H, self.h)?;
@@ -27,16 +32,17 @@ pub fn write_scene(alloc: Global, s: &Scene) -> Result<Value, Memory>
     ensures value { IfOk result (λ v. view v ≡ scene_data s.now) }
     ensures again { OnOk result (IsReadAgain scene_at scene_data s.now) }
 {
-    let format = s.format;
+    s.in_range();
+    what_is_written_is_read_again();
     let mut map = Map::new(alloc);
-    put_number(&mut map, alloc, Field::Format, format)?;
-    let camera = s.camera.write(alloc, format)?;
+    put_number(&mut map, alloc, Field::Format, s.format)?;
+    let camera = s.camera.write(alloc)?;
     put(&mut map, alloc, Field::Camera, camera)?;
-    let palettes = write_list(alloc, format, &s.palettes)?;
+    let palettes = write_list(alloc, &s.palettes)?;
     put(&mut map, alloc, Field::Palettes, palettes)?;
-    let levels = write_list(alloc, format, &s.levels)?;
+    let levels = write_list(alloc, &s.levels)?;
     put(&mut map, alloc, Field::Levels, levels)?;
-    let sheets = write_list(alloc, format, &s.sheets)?;
+    let sheets = write_list(alloc, &s.sheets)?;
     put(&mut map, alloc, Field::Sheets, sheets)?;
     Ok(Value::from(map))
 }

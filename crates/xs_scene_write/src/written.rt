@@ -1,53 +1,37 @@
-ghost use Rattle.std.specs.Prelude.{◌≡◌, false, map, IfOk, OnOk, All};
-ghost use Rattle.serde_json.specs.Data.{string};
+ghost use Rattle.std.specs.Prelude.{◌≡◌, map, IfOk, OnOk};
+ghost use Rattle.serde_json.specs.Data.{Data, string};
 ghost use Rattle.serde_json.specs.View.{view, members_view};
-ghost use Rattle.xs_scene_text.specs.Fields.{list_of};
-ghost use Rattle.xs_scene_text.specs.SceneText.{is_newer};
-ghost use Rattle.xs_scene_text.specs.SceneData.{number_data, list_data, IsReadAgain, with_field, with_some, with_list, with_true};
+ghost use Rattle.xs_scene_text.specs.SceneData.{number_data, list_data, with_field, with_some, with_list, with_true};
 
 use serde_json::{Map, Value};
 use std::alloc::{AllocError, Global};
 use xs_json::Field;
 use xs_pixel::{List, Memory};
-use xs_scene_text::TextForm;
 
 /// What is written into a scene text.
-pub trait Written: TextForm {
-    /// The value for a text of this format.
-    fn write(&self, alloc: Global, format: u32) -> Result<Value, Memory>
-        requires fits { Self.fits self.now }
-        requires known { is_newer format ≡ false → Self.plain self.now }
-        ensures value { IfOk result (λ v. view v ≡ Self.writing self.now) }
+pub trait Written: Sized + Drop {
+    /// The value that is written for it.
+    ghost writing: { Self → Data };
 
-        // What is written is read again.
-        ensures again { OnOk result (IsReadAgain (Self.reading format) Self.writing self.now) };
+    /// This value.
+    fn write(&self, alloc: Global) -> Result<Value, Memory>
+        ensures { IfOk result (λ v. view v ≡ Self.writing self.now) };
 }
 
 /// The elements of a list, each written.
-pub fn write_list<E: Written>(
-    alloc: Global,
-    format: u32,
-    elements: &List<E>,
-) -> Result<Value, Memory>
-    requires fits { All E.fits elements.now }
-    requires known { is_newer format ≡ false → All E.plain elements.now }
-    ensures value { IfOk result (λ v. view v ≡ list_data E.writing elements.now) }
-    ensures again { OnOk result
-        (IsReadAgain (list_of (E.reading format)) (list_data E.writing) elements.now) }
+pub fn write_list<E: Written>(alloc: Global, elements: &List<E>) -> Result<Value, Memory>
+    ensures { IfOk result (λ v. view v ≡ list_data E.writing elements.now) }
 {
-    let values = write_each(alloc, format, elements.items())?;
+    let values = write_each(alloc, elements.items())?;
     Ok(Value::from(values))
 }
 
-fn write_each<E: Written>(alloc: Global, format: u32, elements: &[E]) -> Result<Vec<Value>, Memory>
-    requires fits { All E.fits elements.now }
-    requires known { is_newer format ≡ false → All E.plain elements.now }
-    ensures value { IfOk result (λ values. map view values.items ≡ map E.writing elements.now) }
-    ensures again { OnOk result (All (IsReadAgain (E.reading format) E.writing) elements.now) }
+fn write_each<E: Written>(alloc: Global, elements: &[E]) -> Result<Vec<Value>, Memory>
+    ensures { IfOk result (λ values. map view values.items ≡ map E.writing elements.now) }
 {
     let mut values = Vec::with_capacity(alloc, elements.len())?;
     for element in elements {
-        let value = element.write(alloc, format)?;
+        let value = element.write(alloc)?;
         values.push(value).map_err(AllocError::from)?;
     }
     Ok(values)
@@ -141,21 +125,15 @@ pub fn put_if_true(
 pub fn put_list_if_any<E: Written>(
     map: &mut Map<String, Value>,
     alloc: Global,
-    format: u32,
     k: Field,
     elements: &List<E>,
 ) -> Result<(), Memory>
-    requires fits { All E.fits elements.now }
-    requires known { is_newer format ≡ false → All E.plain elements.now }
-    ensures value { OnOk result (members_view map.new.entries
+    ensures { OnOk result (members_view map.new.entries
         ≡ with_list k E.writing elements.now (members_view map.old.entries)) }
-    ensures again { OnOk result
-        (IsReadAgain (list_of (E.reading format)) (list_data E.writing) elements.now) }
 {
-    let value = write_list(alloc, format, elements)?;
     if elements.items().is_empty() {
-        Ok(())
-    } else {
-        put(map, alloc, k, value)
+        return Ok(());
     }
+    let value = write_list(alloc, elements)?;
+    put(map, alloc, k, value)
 }

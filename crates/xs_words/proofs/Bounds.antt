@@ -2,7 +2,6 @@ use Rattle.std.proofs.Common.{◌≡◌, ℕ, ◌+◌, ◌≤◌, ◌<◌, List,
 use Rattle.std.proofs.lemmas.Bool.{and_parts, and_from, leb-true, le-leb}
 use Rattle.std.proofs.lemmas.Fmt.{digits_decimal, digits_value-decimal, decimal_nonempty, length-decimal-le}
 use Rattle.std.proofs.lemmas.Str.Parse.{digits_value_short}
-use Rattle.xs_scene.proofs.NameTest.{is_name_holds, IsName-from_is_name}
 use Rattle.xs_words.specs.Grammar.{is_number, number_of, is_within, is_last_row, is_base}
 use Rattle.xs_words.specs.Commands.{IsRange, IsBase}
 use Rattle.xs_words.proofs.Numbers.{numerals}
@@ -32,11 +31,11 @@ last_row_passes from span to after last near =
 
 pub base_from_test : (text : List ℕ) → is_base text ≡ true → IsBase text
 unfolding is_base
-base_from_test text e = let both = and_parts _ _ e in (IsName-from_is_name text both.0, leb-true (length text) 180 both.1)
+base_from_test text e = let both = and_parts _ _ e in (both.0, leb-true (length text) 180 both.1)
 
 pub base_passes : (text : List ℕ) → IsBase text → is_base text ≡ true
 unfolding is_base
-base_passes text base = and_from _ _ (is_name_holds text base.0) (le-leb (length text) 180 base.1)
+base_passes text base = and_from _ _ base.0 (le-leb (length text) 180 base.1)
 
 pub small_number : (text : List ℕ) → is_number text ≡ true → number_of text < 1000000000
 unfolding is_number number_of is_within

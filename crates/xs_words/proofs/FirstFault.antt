@@ -52,20 +52,17 @@ first_is_told (check ∷ rest) meant fault rising e =
     let both = and_parts (list_all (λ later. precedes check.fault later.fault) rest) (is_rising rest) rising in
     told_by_test check.passes check.fault rest meant fault (first_is_told rest meant fault both.1) both.0 e
 
-abbrev Reading : Type 0
-Reading = Result Command Usage
+abbrev TellsFirst : Result Command Usage → List Check → Type 0
+TellsFirst reading checks = (fault : Usage) → reading ≡ Err fault → IsFirstFault checks fault
 
-abbrev Tells : Reading → List Check → Type 0
-Tells reading checks = (fault : Usage) → reading ≡ Err fault → IsFirstFault checks fault
-
-one_of_both : (test : Bool) (first second : Reading) (these those : List Check) → Tells first these → Tells second those → Tells (cond test first second) (cond test these those)
+one_of_both : (test : Bool) (first second : Result Command Usage) (these those : List Check) → TellsFirst first these → TellsFirst second those → TellsFirst (cond test first second) (cond test these those)
 one_of_both true first second these those p q = p
 one_of_both false first second these those p q = q
 
-refused : (of : Usage) → Tells (Err of) (failing of)
+refused : (of : Usage) → TellsFirst (Err of) (failing of)
 refused of fault e = first_is_told (failing of) (Show []) fault refl e
 
-counted_told : (words : Words) (count : ℕ) (checks : List Check) (meant : Command) → is_rising checks ≡ true → Tells (cond (length words == count) (checked checks meant) (Err Count)) (cond (length words == count) checks (failing Count))
+counted_told : (words : Words) (count : ℕ) (checks : List Check) (meant : Command) → is_rising checks ≡ true → TellsFirst (cond (length words == count) (checked checks meant) (Err Count)) (cond (length words == count) checks (failing Count))
 counted_told words count checks meant rising =
     one_of_both (length words == count) (checked checks meant) (Err Count) checks (failing Count)
     (λ fault e. first_is_told checks meant fault rising e) (refused Count)

@@ -1,5 +1,4 @@
 use Rattle.std.proofs.Common.{◌≡◌, ℕ, List, [], ◌∷◌, length, Bool, true, false, cond, Result, Ok, Err, IfOk, refl, subst, ◌==◌}
-use Rattle.xs_scene.proofs.NameTest.{IsName-from_is_name}
 use Rattle.xs_words.specs.declared.command.Command.{Command}
 use Rattle.xs_words.specs.declared.fault.Usage.{Usage}
 use Rattle.xs_words.specs.declared.fault.Usage.TheVariants.{Count}
@@ -9,15 +8,12 @@ use Rattle.xs_words.specs.Grammar.{Words, Check, checked, counted, render_checks
 use Rattle.xs_words.specs.Commands.{IsCommand}
 use Rattle.xs_words.proofs.Bounds.{within_from_test, range_from_tests, base_from_test, small_number}
 
-abbrev Reading : Type 0
-Reading = Result Command Usage
-
 -- each check is passed
 abbrev AllPassed : List Check → Type 0
 AllPassed [] = Unit {0}
 AllPassed (check ∷ rest) = (check.passes ≡ true) × AllPassed rest
 
-passed_from_ok : (test : Bool) (reading : Reading) (fault : Usage) (command : Command) → cond test reading (Err fault) ≡ Ok command → (test ≡ true) × (reading ≡ Ok command)
+passed_from_ok : (test : Bool) (reading : Result Command Usage) (fault : Usage) (command : Command) → cond test reading (Err fault) ≡ Ok command → (test ≡ true) × (reading ≡ Ok command)
 passed_from_ok true reading fault command e = (refl, e)
 passed_from_ok false reading fault command e = absurd cc
 
@@ -33,12 +29,12 @@ counted_passed words count checks meant command e =
     let there = passed_from_ok (length words == count) (checked checks meant) Count command e in
     all_passed checks meant command there.1
 
-one_of : (test : Bool) (first second : Reading) (P : Reading → Type 0) → P first → P second → P (cond test first second)
+one_of : (test : Bool) (first second : Result Command Usage) (P : Result Command Usage → Type 0) → P first → P second → P (cond test first second)
 one_of true first second P p q = p
 one_of false first second P p q = q
 
 -- what a reading gives is in range
-abbrev GivesInRange : Reading → Type 0
+abbrev GivesInRange : Result Command Usage → Type 0
 GivesInRange reading = (command : Command) → reading ≡ Ok command → IsCommand command
 
 refused : (fault : Usage) → GivesInRange (Err fault)
@@ -49,7 +45,7 @@ render_in_range words command e =
     let all = counted_passed words 6 (render_checks words) _ command e in
     let t = all.0 in
     subst IsCommand all.1 (
-      IsName-from_is_name _ t.1.1.1.1.1.1.0,
+      t.1.1.1.1.1.1.0,
       range_from_tests _ 4095 _ t.1.1.1.0 t.1.1.1.1.0,
       within_from_test 1 64 _ t.1.1.1.1.1.0,
       base_from_test _ t.1.1.1.1.1.1.1.0,
@@ -59,12 +55,12 @@ dry_in_range : (words : Words) → GivesInRange (dry_reading words)
 dry_in_range words command e =
     let all = counted_passed words 4 (dry_checks words) _ command e in
     let t = all.0 in
-    subst IsCommand all.1 (IsName-from_is_name _ t.1.1.1.1.0, range_from_tests _ 4095 _ t.1.1.0 t.1.1.1.0)
+    subst IsCommand all.1 (t.1.1.1.1.0, range_from_tests _ 4095 _ t.1.1.0 t.1.1.1.0)
 
 show_in_range : (words : Words) → GivesInRange (show_reading words)
 show_in_range words command e =
     let all = counted_passed words 2 (show_checks words) _ command e in
-    subst IsCommand all.1 (IsName-from_is_name _ all.0.0)
+    subst IsCommand all.1 all.0.0
 
 make_in_range : (words : Words) → GivesInRange (make_reading words)
 make_in_range words command e =
@@ -78,8 +74,8 @@ again_in_range words command e =
     let all = counted_passed words 7 (again_checks words) _ command e in
     let t = all.0 in
     subst IsCommand all.1 (
-      IsName-from_is_name _ t.1.1.1.1.1.1.0,
-      IsName-from_is_name _ t.1.1.1.1.1.1.1.0,
+      t.1.1.1.1.1.1.0,
+      t.1.1.1.1.1.1.1.0,
       range_from_tests _ 2047 _ t.1.1.1.0 t.1.1.1.1.0,
       within_from_test 1 64 _ t.1.1.1.1.1.0,
       base_from_test _ t.1.1.1.1.1.1.1.1.0,

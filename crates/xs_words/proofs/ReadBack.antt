@@ -1,5 +1,4 @@
 use Rattle.std.proofs.Common.{refl, arith}
-use Rattle.xs_scene.proofs.NameTest.{is_name_holds}
 use Rattle.xs_words.specs.declared.command.Command.{Command}
 use Rattle.xs_words.specs.declared.command.Command.TheVariants.{Render, Dry, Show, Make, Again}
 use Rattle.xs_words.specs.Grammar.{reading_of}
@@ -19,7 +18,7 @@ read_back (Render scene from to workers base) is =
       within_passes 1 9999 from is.1.0.0 is.1.0.1,
       last_row_passes from 4095 to is.1.1 is.1.2 is.1.3,
       within_passes 1 64 workers is.2.0 is.2.1,
-      is_name_holds scene is.0,
+      is.0,
       base_passes base is.3,
     )
     refl
@@ -31,10 +30,10 @@ read_back (Dry scene from to) is =
       decimal_passes to (omega arith),
       within_passes 1 9999 from is.1.0.0 is.1.0.1,
       last_row_passes from 4095 to is.1.1 is.1.2 is.1.3,
-      is_name_holds scene is.0,
+      is.0,
     )
     refl
-read_back (Show scene) is = rw (is_name_holds scene is) refl
+read_back (Show scene) is = rw is refl
 read_back (Make seed rows workers) is =
     rw (
       number_of-decimal seed (omega arith),
@@ -58,8 +57,8 @@ read_back (Again old new from to workers base) is =
       within_passes 1 9999 from is.2.0.0 is.2.0.1,
       last_row_passes from 2047 to is.2.1 is.2.2 is.2.3,
       within_passes 1 64 workers is.3.0 is.3.1,
-      is_name_holds old is.0,
-      is_name_holds new is.1,
+      is.0,
+      is.1,
       base_passes base is.4,
     )
     refl

@@ -1,6 +1,7 @@
 use xs_scene::Name;
 
-/// What the program is asked to do.
+/// What the program is asked to do. Rows are from 1 to 9999, the last at most 4095 after the first, and
+/// workers are threads, from 1 to 64.
 #[derive(Debug, Drop)]
 pub enum Command {
     /// Render rows `from` to `to` of a scene into frames whose names begin with `base`.
@@ -21,13 +22,14 @@ pub enum Command {
     Show {
         scene: Name,
     },
-    /// Render the first rows of a scene that is generated from a number.
+    /// Render the first rows, 1 to 240, of a scene that is generated from a number below 1,000,000,000.
     Make {
         seed: u32,
         rows: u32,
         workers: u32,
     },
-    /// Render these rows of one scene, and then of another over the tiles that it shares with the first.
+    /// Render these rows, the last at most 2047 after the first, of one scene, and then of another over
+    /// the tiles that it shares with the first.
     Again {
         old: Name,
         new: Name,

@@ -1,11 +1,11 @@
 //! The words of the command line: their grammar, and the first fault of words that are outside it.
 #![tactic(auto)]
 
-pub mod command;
-pub mod fault;
-pub mod laws;
+mod command;
+mod fault;
+mod laws;
 mod parts;
-pub mod reading;
+mod reading;
 
 pub use command::Command;
 pub use fault::{Usage, WordsFault};

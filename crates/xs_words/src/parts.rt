@@ -98,7 +98,6 @@ pub(crate) fn last_row(from: u32, span: u32, to: u32, place: u32) -> Result<(), 
 }
 
 /// The name that a word is.
-#[tactic(auto, using(xs_scene::proofs::NameTest::is_name_holds, xs_scene::proofs::NameTest::is_name_fails))]
 pub(crate) fn name(alloc: Global, text: &str, place: u32) -> Result<Name, WordsFault>
     ensures { ReadsName text.now place result }
 {

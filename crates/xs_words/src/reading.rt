@@ -14,8 +14,10 @@ const LONGEST_SPAN: u32 = 4095;
 /// The same of `again`, which renders each row twice.
 const LONGEST_SPAN_OF_TWO: u32 = 2047;
 
+/// The most threads that render at once.
 const MOST_WORKERS: u32 = 64;
 
+/// The most rows of a generated scene that are rendered.
 const MOST_GENERATED_ROWS: u32 = 240;
 
 fn read_render(alloc: Global, words: &[String]) -> Result<Command, WordsFault>
@@ -117,7 +119,6 @@ fn read(alloc: Global, words: &[String]) -> Result<Command, WordsFault>
 
 /// The command that words say; the first word is the command. Of several faults the one with the least
 /// code is given, with its least word number.
-#[tactic(auto, using(crate::proofs::InRange::result_in_range))]
 pub fn read_words(alloc: Global, words: &[String]) -> Result<Command, WordsFault>
     ensures reading { Reads result (reading_of (map string_bytes words.now)) }
     ensures range { IfOk result IsCommand }
