@@ -1,3 +1,3 @@
 pub mod Chosen
 pub mod Lines
-pub mod Sums
+pub mod Offsets
