@@ -1,6 +1,6 @@
 //! Laws of values, rows and places: the rules as they are told, without a bound of depth.
 
-ghost use Rattle.std.specs.Prelude.{◌≡◌, ℕ, false, ◌+◌, ◌-◌, ◌*◌, ◌<◌, ◌≤◌, pos, Option, Some, List, length, slice_index_or, All, MatchOption, Contains, find};
+ghost use Rattle.std.specs.Prelude.{◌≡◌, ℕ, false, ◌+◌, ◌-◌, ◌*◌, ◌<◌, ◌≤◌, ℤ, pos, Option, Some, List, length, slice_index_or, All, MatchOption, Contains, find};
 ghost use Rattle.xs_pixel.specs.Channels.{Channels};
 ghost use Rattle.xs_meaning.specs.Cells.{cell_at, covers, shown_after};
 ghost use Rattle.xs_meaning.specs.Chosen.{IsOnlyAt, IsKeyInForce, IsKeyAfter, HasDistinctRows};
@@ -8,7 +8,7 @@ ghost use Rattle.xs_meaning.specs.Drawings.{Pictures};
 ghost use Rattle.xs_meaning.specs.Ends.{AllEnd, SeenHas, SheetsEnd};
 ghost use Rattle.xs_meaning.specs.Expressions.{by_offsets, row_expr, root_of};
 ghost use Rattle.xs_meaning.specs.Palettes.{Dropped};
-ghost use Rattle.xs_meaning.specs.Places.{own_offset, peg_at, place_of, key_in_force, key_after};
+ghost use Rattle.xs_meaning.specs.Places.{own_offset, on_line, LiesBetween, peg_at, place_of, key_in_force, key_after};
 ghost use Rattle.xs_meaning.specs.Points.{Point, point, plus};
 ghost use Rattle.xs_meaning.specs.Rows.{by_points, row_of, row_under, value_under, camera_at, frame_of, frame_pixel};
 ghost use Rattle.xs_meaning.specs.Tables.{ColumnsFollow, NodesFollow, RowsFollow};
@@ -50,6 +50,11 @@ pub fn keys_are_chosen_by_row()
         → IsKeyInForce keys row a → key_in_force keys row ≡ Some a }
     ensures only_after { (keys : List PegKeyRecord) (row : ℕ) (b : PegKeyRecord) → HasDistinctRows keys
         → IsKeyAfter keys row b → key_after keys row ≡ Some b }
+{}
+
+/// On the straight line from one key to the next a coordinate lies between those of the two keys.
+pub fn lines_stay_between_their_keys()
+    ensures { (from to : ℤ) (done whole : ℕ) → done ≤ whole → 0 < whole → LiesBetween from to (on_line from to done whole) }
 {}
 
 /// The place of a peg is its own offset plus the place of its parent.
