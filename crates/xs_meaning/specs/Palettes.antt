@@ -37,10 +37,14 @@ pixel_of style = premultiplied style.r style.g style.b style.a
 unfoldable pub as_written : ColoursRecord → Colouring
 as_written c = style_of (written c.styles)
 
--- the palette key that sets a style at a row: of the keys of this style at or before the row, the
+-- of some keys, the one that sets a style at a row: of those of this style at or before the row, the
 -- one with the greatest row
+abbrev pub key_among : List StyleKeyRecord → ℕ → ℕ → Option StyleKeyRecord
+key_among keys row style = latest (λ k. k.row) (filter (λ k. k.style == style && nat_le k.row row) keys)
+
+-- the palette key that sets a style at a row
 abbrev pub key_at : ColoursRecord → ℕ → ℕ → Option StyleKeyRecord
-key_at c row style = latest (λ k. k.row) (filter (λ k. k.style == style && nat_le k.row row) c.keys)
+key_at c row style = key_among c.keys row style
 
 -- a written style, or what the key in force sets it to
 abbrev pub keyed : Option StyleKeyRecord → Style → Style

@@ -1,9 +1,9 @@
 ghost use Rattle.std.specs.Prelude.{◌≡◌, ◌≤◌, ◌<◌, IfSome};
 ghost use Rattle.xs_scene.specs.Ranges.{IsOffset, IsPegKey};
+ghost use Rattle.xs_meaning.specs.Keys.{newest, nearest};
 ghost use Rattle.xs_meaning.specs.Places.{key_in_force, key_after, offset_from, on_line};
 ghost use Rattle.xs_meaning.specs.Places.{own_offset as offset_at};
 ghost use Rattle.xs_meaning.specs.Points.{point};
-ghost use Rattle.xs_sheet.specs.Taken.{newest, nearest};
 
 use xs_meaning::rules::lines_stay_between_their_keys;
 use xs_scene::{Peg, PegKey};

@@ -13,8 +13,8 @@ line c =
     let is = line_is c.args.from c.args.to c.div_euclid.result c.args.done c.args.whole c.requires.start c.requires.end c.requires.rows c.requires.few c.div_euclid.ensures in (
       is,
       subst IsOffset (sym is)
-      (between-offset c.args.from c.args.to _ c.requires.start c.requires.end
-      (c.lines_stay_between_their_keys.ensures c.args.from c.args.to c.args.done c.args.whole (omega arith) (omega arith))),
+          (between-offset c.args.from c.args.to _ c.requires.start c.requires.end
+          (c.lines_stay_between_their_keys.ensures c.args.from c.args.to c.args.done c.args.whole (omega arith) (omega arith))),
     )
 
 pub overflow_add-result : goal.overflow_add-result
