@@ -1,5 +1,6 @@
 -- Palettes that give every style the same pixel have one tint, and the other way round
-use Rattle.std.proofs.Common.{◌≡◌, ◌≢◌, ℕ, ◌+◌, ◌<◌, ◌≤◌, true, ◌&&◌, eqb, Some, List, [], ◌∷◌, ◌++◌, AllPairs, Contains, slice_get, subst, map, length, get_or, refl, sym, ap, ◌∙◌, ⊎_elim, arith}
+use Rattle.std.proofs.Common.{◌≡◌, ◌≢◌, ℕ, ◌<◌, ◌≤◌, true, ◌&&◌, eqb, Some, List, [], ◌∷◌, ◌++◌, AllPairs, Contains, slice_get, subst, map, length, get_or, refl, sym, ap, ◌∙◌, ⊎_elim, arith}
+use Rattle.std.proofs.Math.ListN.{get_or-map}
 use Rattle.std.specs.List.{range_with_len}
 use Rattle.std.proofs.lemmas.Bool.{cases_lt, eq-eqb, and_from}
 use Rattle.std.specs.Option.{option_map}
@@ -8,8 +9,6 @@ use Rattle.std.proofs.lemmas.List.{get_or_default, map-append, length-map}
 use Rattle.std.proofs.lemmas.List.Quantifiers.{all_pairs_push}
 use Rattle.xs_pixel.specs.Channels.{Channels, clear}
 use Rattle.xs_palette.specs.Styles.{style_of}
-use Rattle.xs_meaning.specs.Palettes.{without_clear_end}
-use Rattle.xs_meaning.proofs.Lists.{slice_index_or-map}
 use Rattle.xs_meaning.proofs.Tints.{slice_index_or-without_clear_end}
 use Rattle.xs_meaning.proofs.Canonical.{without_clear_end-same}
 use Rattle.xs_tint.proofs.ShownStyles.{get_or-styles, style_of-past}
@@ -56,7 +55,7 @@ pub tint-not_among :
     → ((k : ℕ) (d : List Channels) → k < n → tint_of (get_or palettes k d) ≢ tint_of p)
     → Contains (map tint_of palettes) (tint_of p) → ⊥
 tint-not_among palettes p n all differ at =
-    differ at.0 p (omega (arith, at.1, length-map palettes tint_of)) (sym (slice_index_or-map tint_of palettes at.0 p) ∙ at.2)
+    differ at.0 p (omega (arith, at.1, length-map palettes tint_of)) (sym (get_or-map tint_of palettes at.0 p) ∙ at.2)
 
 pub tint-last :
     (palettes new : List (List Channels)) (p : List Channels) (n : ℕ) → new ≡ palettes ++ p ∷ [] → n ≡ length palettes

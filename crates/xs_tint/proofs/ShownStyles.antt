@@ -1,6 +1,7 @@
 -- The palette made of styles as keys set them and filters drop them
-use Rattle.std.proofs.Common.{◌≡◌, ℕ, zero, suc, ◌+◌, ◌<◌, ◌≤◌, Bool, true, false, ◌||◌, cond, length, get_or, List, map, Some, slice_get, refl, sym, ap, ◌∙◌, ⊎_elim, subst, arith}
+use Rattle.std.proofs.Common.{◌≡◌, ℕ, zero, suc, ◌<◌, ◌≤◌, Bool, true, false, ◌||◌, cond, length, get_or, List, map, slice_get, refl, sym, ap, ◌∙◌, ⊎_elim, arith}
 use Rattle.std.proofs.Math.Path.{fun_ext}
+use Rattle.std.proofs.Math.ListN.{get_or-map}
 use Rattle.std.specs.List.{range_with_len}
 use Rattle.std.specs.Option.{option_map_or}
 use Rattle.std.proofs.lemmas.Bool.{cases_lt, ne_eqb}
@@ -12,8 +13,7 @@ use Rattle.xs_pixel.specs.Operations.{product}
 use Rattle.xs_pixel.specs.declared.style.Style.{Style}
 use Rattle.xs_palette.specs.Styles.{written, style_of}
 use Rattle.xs_scene.specs.Records.{ColoursRecord}
-use Rattle.xs_meaning.specs.Palettes.{Dropped, Colouring, style_at, tint_at, pixels_by, key_at, keyed, pixel_of, without_clear_end}
-use Rattle.xs_meaning.proofs.Lists.{slice_index_or-map}
+use Rattle.xs_meaning.specs.Palettes.{Dropped, style_at, tint_at, pixels_by, key_at, keyed, pixel_of}
 use Rattle.xs_meaning.proofs.Tints.{style_at-past, get_or-tint_at, slice_index_or-without_clear_end}
 use Rattle.xs_meaning.proofs.Canonical.{without_clear_end-same}
 use Rattle.xs_tint.specs.declared.shown.TheConstants.{NO_COLOUR}
@@ -40,7 +40,7 @@ style_of-shown c row f styles long shown = fun_ext at
     here id inside =
         let d = NO_COLOUR in
         ap (get_or (written styles) (suc id)) (sym no_colour-clear)
-        ∙ slice_index_or-map pixel_of styles (suc id) d
+        ∙ get_or-map pixel_of styles (suc id) d
         ∙ ap pixel_of (shown (suc id) d inside)
         ∙ shown_pixel (f (suc id)) (keyed (key_at c row (suc id)) (get_or c.styles (suc id) d))
         ∙ ap (λ o. cond (f (suc id)) clear (option_map_or (λ s. pixel_of (keyed (key_at c row (suc id)) s)) o clear)) (sym (slice_get-get_or c.styles (suc id) d inside))

@@ -1,4 +1,4 @@
-use Rattle.std.proofs.Common.{◌≡◌, ◌<◌, length, cond, arith, sym, ap, ◌∙◌}
+use Rattle.std.proofs.Common.{◌≡◌, cond, arith, ap, ◌∙◌}
 use Rattle.xs_palette.specs.Styles.{written, style_of}
 use Rattle.xs_meaning.specs.Palettes.{style_at}
 use Rattle.xs_tint.specs.declared.shown.TheConstants.{NO_COLOUR}

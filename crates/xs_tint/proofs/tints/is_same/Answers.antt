@@ -1,4 +1,4 @@
-use Rattle.std.proofs.Common.{◌≡◌, ◌≤◌, ◌/◌, true, false, not, length, max, refl, arith, sym, ap, ◌∙◌}
+use Rattle.std.proofs.Common.{◌≡◌, ◌≤◌, ◌/◌, not, length, refl, arith, sym, ap, ◌∙◌}
 use Rattle.std.proofs.lemmas.Bool.{false≢true}
 use Rattle.xs_tint.proofs.SameTints.{styles-from_tint, tint-from_styles, same_test}
 use Rattle.xs_tint.proofs.tints.is_same.Goals as goal
