@@ -1,7 +1,7 @@
 -- Where every way ends, more depth changes nothing, and the rules hold as equations
 use Rattle.std.proofs.Common.{ℕ, zero, suc, ◌+◌, ◌-◌, ◌≡◌, ◌≤◌, ◌<◌, refl, sym, ap, ap₂, ◌∙◌, subst, Bool, Option, Some, None, List, [], ◌∷◌, map, find, slice_get, length, All, IfSome, arith, ⊎_elim}
 use Rattle.std.specs.Option.{option_map_or}
-use Rattle.std.proofs.lemmas.Bool.{cases_lt}
+use Rattle.std.proofs.lemmas.Bool.{cases_lt, cond_both}
 use Rattle.std.proofs.lemmas.List.Elements.{All-head, All-tail}
 use Rattle.std.proofs.lemmas.Option.{slice_get_past}
 use mathlib.Core.Path.{fun_ext}
@@ -20,7 +20,7 @@ use Rattle.xs_meaning.specs.Palettes.{Dropped, keeping, deleting}
 use Rattle.xs_meaning.specs.Places.{place_up, place_of, peg_at, own_offset}
 use Rattle.xs_meaning.specs.Points.{plus}
 use Rattle.xs_meaning.specs.Walk.{Reading, Rows, Inputs, sheet_at, column_at, no_column, terminals_of, seen_by, column_by, listed_by, node_by, walk, depth_of, composed_by, row_by, row_walk, whole_row, whole_input}
-use Rattle.xs_meaning.proofs.Lists.{by_test, All-slice_index_or}
+use Rattle.xs_meaning.proofs.Lists.{All-slice_index_or}
 
 -- two answers for the same inputs at every row under every dropped styles
 abbrev SameInput : {A : Type 0} → Inputs A → Inputs A → Ref → Type 0
@@ -81,7 +81,7 @@ walk-deeper R rows k (suc m) (suc more) le (ToNode n) ends row f =
 pub find-has : {X : Type 0} (P : X → Type 0) (test : X → Bool) (xs : List X) → All P xs → IfSome (find test xs) P
 find-has P test [] all = tt
 find-has P test (x ∷ xs) all =
-    by_test (λ o. IfSome o P) (test x) (Some x) (find test xs)
+    cond_both (test x) (Some x) (find test xs) (λ o. IfSome o P)
     (λ passes. All-head P x xs all) (λ fails. find-has P test xs (All-tail P x xs all))
 
 cell_at-has :

@@ -1,5 +1,6 @@
 -- The extent of an expression is that of what it was made from, whatever the offset
 use Rattle.std.proofs.Common.{ℕ, max, ◌≡◌, refl, sym, ap, ap₂, ◌∙◌, Bool, true, false, cond, Option, Some, None, is_none, unwrap_or}
+use Rattle.std.proofs.lemmas.Bool.{cond_both}
 use Rattle.xs_pixel.specs.Channels.{Channels}
 use Rattle.xs_pixel.specs.declared.operation.Op.{Op}
 use Rattle.xs_scene.specs.declared.node.Ref.{Ref}
@@ -11,7 +12,6 @@ use Rattle.xs_meaning.specs.Palettes.{Dropped, keeping, deleting, is_as_written,
 use Rattle.xs_meaning.specs.Points.{Point, plus}
 use Rattle.xs_meaning.specs.Walk.{sheet_at, whole_row, whole_input, depth_of}
 use Rattle.xs_meaning.proofs.Agree.{Agrees, row_walk-agrees, walk-agrees, meets-any}
-use Rattle.xs_meaning.proofs.Lists.{by_test}
 
 pub is_none-extent_of : (e : Expr) → is_none (extent_of e) ≡ is_clear e
 is_none-extent_of Clear = refl
@@ -67,7 +67,7 @@ extent-leaf_by :
     (c : Option ColoursRecord) (d row : ℕ) (f : Dropped) (at : Point) → extent_of (leaf_by c d row f at) ≡ Some 0
 extent-leaf_by None d row f at = refl
 extent-leaf_by (Some c) d row f at =
-    by_test (λ e. extent_of e ≡ Some 0) (is_as_written c row f) (Leaf d at) (Tinted d at (tint_at c row f))
+    cond_both (is_as_written c row f) (Leaf d at) (Tinted d at (tint_at c row f)) (λ e. extent_of e ≡ Some 0)
     (λ passes. refl) (λ fails. refl)
 
 abbrev HasExtent : (Point → Expr) → Option ℕ → Type 0

@@ -1,19 +1,19 @@
 -- The key that is chosen from a list is one of it
 use Rattle.std.proofs.Common.{ℕ, ◌+◌, ◌<◌, ◌++◌, length, take, get_or, append-nil, ap, arith, ◌≡◌, ◌≤◌, refl, sym, subst, Bool, true, false, cond, nat_lt, Option, Some, None, List, [], ◌∷◌, All, IfSome, le_refl, le_trans, le_of_lt, ltb-true, ltb-false, filter, ◌∙◌, true≢false}
+use Rattle.std.proofs.lemmas.Bool.{cond_both}
 use Rattle.std.proofs.lemmas.Bool.Decides.{nat_tests}
 use Rattle.std.proofs.lemmas.List.Elements.{All-head, All-tail, All-nil, All-cons, All-weaker, filter_more}
 use Rattle.xs_meaning.specs.Keys.{later, earlier, latest, earliest, newest, nearest}
-use Rattle.xs_meaning.proofs.Lists.{by_test}
 
 later-has : {K : Type 0} (P : K → Type 0) (row : K → ℕ) (k : K) (best : Option K) → P k → IfSome best P → P (later row k best)
 later-has P row k None here rest = here
 later-has P row k (Some best) here rest =
-    by_test P (nat_lt (row k) (row best)) best k (λ passes. rest) (λ fails. here)
+    cond_both (nat_lt (row k) (row best)) best k P (λ passes. rest) (λ fails. here)
 
 earlier-has : {K : Type 0} (P : K → Type 0) (row : K → ℕ) (k : K) (best : Option K) → P k → IfSome best P → P (earlier row k best)
 earlier-has P row k None here rest = here
 earlier-has P row k (Some best) here rest =
-    by_test P (nat_lt (row best) (row k)) best k (λ passes. rest) (λ fails. here)
+    cond_both (nat_lt (row best) (row k)) best k P (λ passes. rest) (λ fails. here)
 
 pub latest-has : {K : Type 0} (P : K → Type 0) (row : K → ℕ) (ks : List K) → All P ks → IfSome (latest row ks) P
 latest-has P row [] all = tt

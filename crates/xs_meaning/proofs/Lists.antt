@@ -1,5 +1,5 @@
 -- Lemmas on lists, options and tests that std lacks
-use Rattle.std.proofs.Common.{ℕ, zero, suc, ◌≡◌, refl, Bool, true, false, cond, List, [], ◌∷◌, map, slice_get, get_or, All, IfSome, arith, ◌&&◌, ◌||◌}
+use Rattle.std.proofs.Common.{ℕ, zero, suc, ◌≡◌, refl, Bool, true, false, cond, List, [], ◌∷◌, slice_get, get_or, All, IfSome, arith, ◌&&◌}
 use Rattle.std.proofs.lemmas.List.Elements.{All-tail}
 
 -- what holds of each element holds of one by its index
@@ -14,11 +14,6 @@ All-slice_index_or P [] i d default all = default
 All-slice_index_or P (x ∷ xs) zero d default all = all 0 x (omega arith)
 All-slice_index_or P (x ∷ xs) (suc i) d default all = All-slice_index_or P xs i d default (All-tail P x xs all)
 
-pub slice_index_or-map : {X Y : Type 0} (f : X → Y) (xs : List X) (i : ℕ) (d : X) → get_or (map f xs) i (f d) ≡ f (get_or xs i d)
-slice_index_or-map f [] i d = refl
-slice_index_or-map f (x ∷ xs) zero d = refl
-slice_index_or-map f (x ∷ xs) (suc i) d = slice_index_or-map f xs i d
-
 pub both_true : (a b : Bool) → (a && b) ≡ true → (a ≡ true) × (b ≡ true)
 both_true true true same = (refl, refl)
 both_true true false same = cc
@@ -28,11 +23,3 @@ both_true false b same = cc
 pub by_test : {X : Type 0} (P : X → Type 0) (b : Bool) (x y : X) → (b ≡ true → P x) → (b ≡ false → P y) → P (cond b x y)
 by_test P true x y passes fails = passes refl
 by_test P false x y passes fails = fails refl
-
-pub or_false : (b : Bool) → (b || false) ≡ b
-or_false true = refl
-or_false false = refl
-
-pub and_false : (b : Bool) → (b && false) ≡ false
-and_false true = refl
-and_false false = refl

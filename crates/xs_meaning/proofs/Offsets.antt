@@ -1,5 +1,6 @@
 -- How far pegs, and so drawings, can be moved
 use Rattle.std.proofs.Common.{ℕ, zero, suc, ◌+◌, ◌*◌, ◌/◌, ◌-◌, ◌^◌, ◌≡◌, ◌≤◌, ◌<◌, ℤ, pos, negsuc, neg_ℤ, ◌-ℤ◌, ◌*ℤ◌, ◌≤ℤ◌, subst, nat_le, nat_lt, Option, Some, None, List, filter, All, IfSome, inl, inr, ⊎_elim, mul_comm, arith, leb-true, ltb-true}
+use Rattle.std.proofs.lemmas.Bool.{cond_both}
 use Rattle.std.specs.Int.{int_div_euclid}
 use Rattle.std.proofs.Math.Nat.{zero-div, div-le_of_le-mul, div-lt_iff_lt-mul, mul-le-mul_left}
 use Rattle.std.proofs.lemmas.Int.{ints}
@@ -11,7 +12,7 @@ use Rattle.xs_meaning.specs.Bounds.{IsWithin}
 use Rattle.xs_meaning.specs.Places.{key_in_force, key_after, on_line, LiesBetween, offset_by, own_offset, place_up, place_of, peg_at, no_peg}
 use Rattle.xs_meaning.specs.Points.{Point, point, origin, plus}
 use Rattle.xs_meaning.proofs.KeyLemmas.{latest-has, earliest-has}
-use Rattle.xs_meaning.proofs.Lists.{by_test, All-slice_index_or}
+use Rattle.xs_meaning.proofs.Lists.{All-slice_index_or}
 
 part_backwards :
     (n product whole : ℕ) → product ≤ suc n * whole → 0 < whole
@@ -86,9 +87,9 @@ offset_by-within None b row first next = origin-within 65536
 offset_by-within (Some a) None row first next =
     within 65536 a.x a.y (IsBetween-offset a.x first.0.x) (IsBetween-offset a.y first.0.y)
 offset_by-within (Some a) (Some b) row first next =
-    by_test (IsWithin 65536) a.line
-    (point (on_line a.x b.x (row - a.row) (b.row - a.row)) (on_line a.y b.y (row - a.row) (b.row - a.row)))
+    cond_both a.line (point (on_line a.x b.x (row - a.row) (b.row - a.row)) (on_line a.y b.y (row - a.row) (b.row - a.row)))
     (point a.x a.y)
+    (IsWithin 65536)
     (λ passes.
     within 65536 (on_line a.x b.x (row - a.row) (b.row - a.row)) (on_line a.y b.y (row - a.row) (b.row - a.row))
     (IsBetween-line 65536 a.x b.x (on_line a.x b.x (row - a.row) (b.row - a.row)) (on_line-between a.x b.x (row - a.row) (b.row - a.row) (omega (arith, first.1, next.1)) (omega (arith, first.1, next.1)))

@@ -16,7 +16,7 @@ use Rattle.xs_meaning.specs.Points.{minus, Point}
 use Rattle.xs_meaning.specs.Rows.{by_points, blurred, row_under, value_under}
 use Rattle.xs_meaning.specs.Walk.{sheet_at, whole_row, depth_of}
 use Rattle.xs_meaning.proofs.Agree.{Agrees, row_walk-agrees, walk-agrees, meets-any}
-use Rattle.xs_meaning.proofs.Lists.{or_false, and_false}
+use Rattle.std.proofs.Math.Bool.{or-false, and-false}
 
 -- two colourings that agree on each style that the words use give a drawing the same pixels
 
@@ -143,7 +143,7 @@ pub AgreeOnWords-deleting :
     → AgreeOnWords pictures (deleting styles f) f
 AgreeOnWords-deleting styles pictures f none =
     EachStyleUsed-map (λ style. is_listed styles style ≡ false) (λ style. deleting styles f style ≡ f style)
-    (λ style unlisted. ap (λ b. f style || b) unlisted ∙ or_false (f style)) pictures none
+    (λ style unlisted. ap (λ b. f style || b) unlisted ∙ or-false (f style)) pictures none
 
 -- and so does keeping at least all those that words use
 pub AgreeOnWords-keeping :
@@ -153,5 +153,5 @@ AgreeOnWords-keeping styles pictures f only =
     EachStyleUsed-map (λ style. is_listed styles style ≡ true) (λ style. keeping styles f style ≡ f style)
     (λ style listed.
     ap (λ b. f style || (nat_lt style 4096 && not b)) listed
-    ∙ ap (λ b. f style || b) (and_false (nat_lt style 4096)) ∙ or_false (f style))
+    ∙ ap (λ b. f style || b) (and-false (nat_lt style 4096)) ∙ or-false (f style))
     pictures only
