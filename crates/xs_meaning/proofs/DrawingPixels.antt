@@ -13,7 +13,7 @@ use Rattle.xs_scene.specs.declared.level.Kind.{Kind}
 use Rattle.xs_scene.specs.declared.level.Kind.TheVariants.{Colour, Cm32}
 use Rattle.xs_scene.specs.Records.{SceneRecord, LevelRecord, ColoursRecord, StyleKeyRecord}
 use Rattle.xs_meaning.specs.Points.{Point}
-use Rattle.xs_meaning.specs.Palettes.{Colouring, Dropped, pixel_of, style_at, key_at, keyed}
+use Rattle.xs_meaning.specs.Palettes.{Colouring, Dropped, pixel_of, style_at, key_at, keyed, keyed_pixel}
 use Rattle.xs_meaning.specs.Drawings.{Pictures, level_of, palette_of, colours_of, no_colours, pixels_in, words_in, drawing_pixel, colouring_at}
 use Rattle.xs_scene.specs.InRange.{IsStyle, ColoursInRange, IsInRange}
 use Rattle.xs_meaning.specs.Drawings.{HoldsPixels, ArePixels}
@@ -37,7 +37,7 @@ IsPixel-option g (Some style) pixel bytes = pixel style bytes
 pub IsPixel-style_at : (c : ColoursRecord) → ColoursInRange c → (row : ℕ) (f : Dropped) (style : ℕ) → IsPixel (style_at c row f style)
 unfolding style_at
 IsPixel-style_at c bytes row f style =
-    cond_both (style == 0 || f style) clear (option_map_or (λ s. pixel_of (keyed (key_at c row style) s)) (slice_get c.styles style) clear)
+    cond_both (style == 0 || f style) clear (keyed_pixel (key_at c row style) (slice_get c.styles style))
     IsPixel
     (λ passes. IsPixel-clear)
     (λ fails.

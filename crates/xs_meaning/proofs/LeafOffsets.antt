@@ -12,7 +12,7 @@ use Rattle.xs_meaning.specs.Palettes.{Dropped, none_dropped, keeping, deleting, 
 use Rattle.xs_meaning.specs.Points.{Point, plus, opposite}
 use Rattle.xs_meaning.specs.Rows.{camera_at}
 use Rattle.xs_meaning.specs.Walk.{sheet_at, column_at}
-use Rattle.xs_meaning.proofs.Agree.{Agrees, Meets, row_walk-agrees}
+use Rattle.xs_meaning.proofs.Agree.{Agrees, Meets, whole_row-agrees}
 use Rattle.xs_meaning.proofs.SheetRanges.{sheet_at-in_range}
 use Rattle.xs_meaning.proofs.Offsets.{plus-within, IsWithin-more, place_of-within}
 
@@ -85,8 +85,8 @@ pub LeavesWithin-row_expr :
     (s : SceneRecord) → IsInRange s → (k row : ℕ) (f : Dropped) (b : ℕ) (o : Point) → IsWithin b o
     → LeavesWithin (b + 2 ^ 26) (row_expr s k row f o)
 LeavesWithin-row_expr s range k row f =
-    row_walk-agrees (by_offsets s) (by_offsets s) (λ d e same. IsBounded d e) (λ f g. f ≡ g)
-    (λ style. Unit {0}) (IsWithin (2 ^ 22)) (agrees s) s.sheets (meets s range) 16 k row f f refl
+    whole_row-agrees (by_offsets s) (by_offsets s) (λ d e same. IsBounded d e) (λ f g. f ≡ g)
+    (λ style. Unit {0}) (IsWithin (2 ^ 22)) (agrees s) s.sheets (meets s range) k row f f refl
 
 opposite-within : (n : ℕ) (p : Point) → IsWithin n p → IsWithin n (opposite p)
 opposite-within n p here =

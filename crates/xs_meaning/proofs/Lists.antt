@@ -1,5 +1,5 @@
 -- Lemmas on lists, options and tests that std lacks
-use Rattle.std.proofs.Common.{ℕ, zero, suc, ◌≡◌, refl, Bool, true, false, cond, List, [], ◌∷◌, slice_get, get_or, All, IfSome, arith, ◌&&◌}
+use Rattle.std.proofs.Common.{ℕ, zero, suc, ◌≡◌, refl, Bool, true, false, List, [], ◌∷◌, slice_get, get_or, All, IfSome, arith, ◌&&◌, ◌*◌, ◌∙◌, length, flat_map, length-append, suc-mul}
 use Rattle.std.proofs.lemmas.List.Elements.{All-tail}
 
 -- what holds of each element holds of one by its index
@@ -19,7 +19,11 @@ both_true true true same = (refl, refl)
 both_true true false same = cc
 both_true false b same = cc
 
--- a choice whose two sides have a fact under what the test says
-pub by_test : {X : Type 0} (P : X → Type 0) (b : Bool) (x y : X) → (b ≡ true → P x) → (b ≡ false → P y) → P (cond b x y)
-by_test P true x y passes fails = passes refl
-by_test P false x y passes fails = fails refl
+-- lists of one length, one after another
+pub length-flat_map_even :
+    {X A : Type 0} (f : X → List A) (n : ℕ) → ((x : X) → length (f x) ≡ n)
+    → (xs : List X) → length (flat_map f xs) ≡ length xs * n
+length-flat_map_even f n long [] = omega arith
+length-flat_map_even f n long (x ∷ xs) =
+    let rest = length-flat_map_even f n long xs in
+    length-append (f x) (flat_map f xs) ∙ omega (arith, long x, rest, suc-mul (length xs) n)

@@ -50,13 +50,17 @@ key_at c row style = key_among c.keys row style
 abbrev pub keyed : Option StyleKeyRecord → Style → Style
 keyed key style = option_map_or (λ k. k.to) key style
 
+-- the pixel that a key gives to a written style, where the palette has it
+abbrev pub keyed_pixel : Option StyleKeyRecord → Option Style → Channels
+keyed_pixel key style = option_map_or (λ s. pixel_of (keyed key s)) style clear
+
 -- the pixel of a style at a row under dropped styles: style 0, a dropped one and one that the palette
 -- lacks are clear, another is what its key sets it to, or is as written
 unfoldable pub style_at : ColoursRecord → ℕ → Dropped → Colouring
 style_at c row f style =
     if style == 0 || f style
     then clear
-    else option_map_or (λ s. pixel_of (keyed (key_at c row style) s)) (slice_get c.styles style) clear
+    else keyed_pixel (key_at c row style) (slice_get c.styles style)
 
 -- the pixels of the styles of a palette, from style 0 on
 abbrev pub pixels_by : ColoursRecord → Colouring → List Channels

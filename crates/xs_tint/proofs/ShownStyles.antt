@@ -3,7 +3,6 @@ use Rattle.std.proofs.Common.{◌≡◌, ℕ, zero, suc, ◌<◌, ◌≤◌, Boo
 use Rattle.std.proofs.Math.Path.{fun_ext}
 use Rattle.std.proofs.Math.ListN.{get_or-map}
 use Rattle.std.specs.List.{range_with_len}
-use Rattle.std.specs.Option.{option_map_or}
 use Rattle.std.proofs.lemmas.Bool.{cases_lt, ne_eqb}
 use Rattle.std.proofs.lemmas.List.{get_or_past, length-map}
 use Rattle.std.proofs.lemmas.List.FromFn.{get_or-map-range_with_len, length-map-range_with_len}
@@ -13,7 +12,7 @@ use Rattle.xs_pixel.specs.Operations.{product}
 use Rattle.xs_pixel.specs.declared.style.Style.{Style}
 use Rattle.xs_palette.specs.Styles.{written, style_of}
 use Rattle.xs_scene.specs.Records.{ColoursRecord}
-use Rattle.xs_meaning.specs.Palettes.{Dropped, style_at, key_at, keyed, pixel_of}
+use Rattle.xs_meaning.specs.Palettes.{Dropped, style_at, key_at, keyed, keyed_pixel, pixel_of}
 use Rattle.xs_tint.specs.declared.shown.TheConstants.{NO_COLOUR}
 
 no_colour-clear : pixel_of NO_COLOUR ≡ clear
@@ -41,8 +40,8 @@ style_of-shown c row f styles lacking long shown = fun_ext at
         ∙ get_or-map pixel_of styles (suc id) d
         ∙ ap pixel_of (shown (suc id) d inside)
         ∙ shown_pixel (f (suc id)) (keyed (key_at c row (suc id)) (get_or c.styles (suc id) d))
-        ∙ ap (λ o. cond (f (suc id)) clear (option_map_or (λ s. pixel_of (keyed (key_at c row (suc id)) s)) o clear)) (sym (slice_get-get_or c.styles (suc id) d inside))
-        ∙ ap (λ b. cond (b || f (suc id)) clear (option_map_or (λ s. pixel_of (keyed (key_at c row (suc id)) s)) (slice_get c.styles (suc id)) clear)) (sym (ne_eqb (suc id) 0 (omega arith)))
+        ∙ ap (λ o. cond (f (suc id)) clear (keyed_pixel (key_at c row (suc id)) o)) (sym (slice_get-get_or c.styles (suc id) d inside))
+        ∙ ap (λ b. cond (b || f (suc id)) clear (keyed_pixel (key_at c row (suc id)) (slice_get c.styles (suc id)))) (sym (ne_eqb (suc id) 0 (omega arith)))
 
     at : (id : ℕ) → style_of (written styles) id ≡ style_at c row f id
     at zero = refl
