@@ -2,7 +2,7 @@
 //! with its own label. That no label rises along a link and that this node is on a cycle is tested; where it is
 //! not so, each node is asked whether a path leads back to it.
 ghost use Rattle.std.specs.Prelude.{◌≡◌, ◌<◌, ◌≤◌, ◌↔◌, IfOk, IfSome, IsTrue, All, length, slice_index};
-ghost use Rattle.xs_graph.specs.Labels.{NeverRise, Falls, Tells};
+ghost use Rattle.xs_graph.specs.Labels.{NeverRise, Falls, IsToldBy};
 ghost use Rattle.xs_graph.specs.First.{IsFirstWithout};
 ghost use Rattle.xs_graph.specs.Paths.{LiesOnCycle};
 
@@ -86,6 +86,7 @@ fn is_on_cycle(
 pub(crate) enum Told {
     /// The first node on a cycle, or that there is none.
     First(Option<usize>),
+    /// Labels do not show which node is the first on a cycle.
     Nothing,
 }
 
@@ -95,7 +96,7 @@ pub(crate) fn first_by_labels(
     links: &List<List<u32>>,
     labels: &[u32],
 ) -> Result<Told, AllocError>
-    ensures { IfOk result (Tells links.now labels.now) }
+    ensures { IfOk result (IsToldBy links.now labels.now) }
 {
     let nodes = links.items();
     if !never_rise(nodes, labels) {
@@ -109,7 +110,7 @@ pub(crate) fn first_by_labels(
     }
 }
 
-/// The first node from which a path leads back to it.
+/// The first node from which a path leads back to it, if there is one.
 pub fn first_on_cycle(alloc: Global, links: &List<List<u32>>) -> Result<Option<usize>, AllocError>
     ensures { IfOk result (IsFirstWithout (λ a. LiesOnCycle links.now a → ⊥) (length links.now)) }
 {
