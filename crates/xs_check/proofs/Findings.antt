@@ -82,18 +82,6 @@ first_told P code at xs first (Ok u) h told = first_found P code (index_at at) x
 first_told P code at xs first (Err errors.Memory) h told = tt
 first_told P code at xs first (Err (errors.Fault fault)) h (i, is, fault_is) = first_found P code (index_at at) xs first h (Some fault) (rw (is, fault_is) refl)
 
--- the fault at an element without P
-pub told_fails : (P : Type 0) (code : SceneCode) (at : List ℕ) (e : FieldFault) → (P → ⊥) → Tells code at e → Finds {X = Unit {0}} (Err e) (Unless code at P)
-told_fails P code at errors.Memory bad told = tt
-told_fails P code at (errors.Fault fault) bad told = (bad, told)
-
--- past its elements a list finds nothing
-pub each_done : {A : Type 0} (F : ℕ → A → Finding) (n : ℕ) (xs : List A) (i : ℕ) → length xs ≤ i → Each F n (drop i xs) None
-each_done F n [] zero h = refl
-each_done F n [] (suc i) h = refl
-each_done F n (x ∷ xs) zero h = absurd (omega arith)
-each_done F n (x ∷ xs) (suc i) h = each_done F n xs i (omega arith)
-
 -- a check of each element finds what another one does, where the two agree on each
 pub each_cover : {A : Type 0} (F G : ℕ → A → Finding) (d : A) (xs : List A) (k : ℕ)
     → ((n i : ℕ) → n ≡ k + i → i < length xs → (found : Option SceneFault) → F n (get_or xs i d) found → G n (get_or xs i d) found)

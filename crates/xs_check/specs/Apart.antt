@@ -1,22 +1,14 @@
--- Rows in which things stand, of which those of one group may share none.
+-- Items that stand in rows, of which those of one group may share none.
 use Rattle.std.specs.Prelude.{◌≡◌, ◌<◌, ◌≤◌, ◌+◌, ◌⊎◌, ℕ, List, Option, Some, None, AllPairs, length, take}
-use Rattle.xs_check.specs.declared.standing.Rows.{Rows}
 
--- where an item stands, by its group, its first row and its last
-abbrev pub stands : {A : Type 0} → (A → ℕ) → (A → ℕ) → (A → ℕ) → A → Rows
-stands group first last a = record { group = group a; from = first a; to = last a }
-
--- the first row is no later than the last
-abbrev pub IsSpan : Rows → Type 0
-IsSpan r = r.from ≤ r.to
-
--- no row lies in both, if they are of one group
-unfoldable pub StandApart : Rows → Rows → Type 0
-StandApart a b = a.group ≡ b.group → (row : ℕ) → a.from ≤ row → row ≤ a.to → b.from ≤ row → row ≤ b.to → ⊥
+-- no row lies in both, from the first to the last of each, if they are of one group
+unfoldable pub ShareNoRow : {A : Type 0} → (A → ℕ) → (A → ℕ) → (A → ℕ) → A → A → Type 0
+ShareNoRow group first last a b =
+    group a ≡ group b → (row : ℕ) → first a ≤ row → row ≤ last a → first b ≤ row → row ≤ last b → ⊥
 
 -- the first is of an earlier group, or ends before the second begins
-abbrev pub EndsBefore : Rows → Rows → Type 0
-EndsBefore a b = (a.group < b.group) ⊎ ((a.group ≡ b.group) × (a.to < b.from))
+abbrev pub EndsBefore : {A : Type 0} → (A → ℕ) → (A → ℕ) → (A → ℕ) → A → A → Type 0
+EndsBefore group first last a b = (group a < group b) ⊎ ((group a ≡ group b) × (last a < first b))
 
 -- so many stand apart, and one more does not
 pub record IsFront {A : Type 0} (Apart : A → A → Type 0) (xs : List A) (i : ℕ) : Type 0 where
