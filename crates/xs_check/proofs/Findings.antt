@@ -1,4 +1,4 @@
-use Rattle.std.proofs.Common.{◌≡◌, ◌<◌, ◌≤◌, ◌+◌, ℕ, zero, suc, true, false, List, [], ◌∷◌, Option, Some, None, Result, Ok, Err, inl, inr, length, drop, get_or, is_err, refl, sym, subst, arith, option_map}
+use Rattle.std.proofs.Common.{◌≡◌, ◌<◌, ◌≤◌, ◌+◌, ℕ, suc, true, false, List, [], ◌∷◌, Option, Some, None, Result, Ok, Err, inl, inr, length, drop, get_or, is_err, refl, sym, subst, arith, option_map}
 use Rattle.std.proofs.Math.Seq.{drop-cons}
 use Rattle.std.proofs.Math.Numerals.{add-one}
 use Rattle.xs_json.specs.declared.fault.SceneFault.{SceneFault}
@@ -6,7 +6,6 @@ use Rattle.xs_json.specs.declared.fault.FieldFault.{FieldFault}
 use Rattle.xs_json.specs.declared.fault.FieldFault.TheVariants as errors
 use Rattle.xs_json.specs.declared.code.SceneCode.{SceneCode}
 use Rattle.xs_json.specs.Paths.{index_at}
-use Rattle.xs_json.specs.Reading.{Tells}
 use Rattle.std.proofs.lemmas.Bool.{cases_lt}
 use Rattle.xs_check.specs.Finding.{Finding, Finds, Unless, Then, Each, TellsFirst}
 use Rattle.xs_graph.specs.First.{IsFirstWithout}

@@ -1,4 +1,4 @@
-use Rattle.std.proofs.Common.{◌≡◌, ◌+◌, ◌-◌, Bool, IsTrue, get_or, refl, sym, subst, arith}
+use Rattle.std.proofs.Common.{◌≡◌, ◌+◌, ◌-◌, Bool, IsTrue, get_or, refl, subst, arith}
 use Rattle.xs_check.proofs.Neighbours.{apart_by_neighbours, shared_by_neighbours}
 use Rattle.xs_check.proofs.apart.each_ends_before.Goals as goal
 
