@@ -1,24 +1,13 @@
--- Where the keys and the cells of a scene stand: they stand apart where their rows do.
+-- Keys and cells stand apart where they share no row.
 use Rattle.std.specs.Prelude.{◌≤◌, ◌↔◌, ℕ, refl}
 use Rattle.std.proofs.Math.Nat.{le_refl, le_trans, le_antisymm}
 use Rattle.std.proofs.Common.{subst}
 use Rattle.xs_scene.specs.Records.{PegKeyRecord, StyleKeyRecord, ExposureRecord}
 use Rattle.xs_index.specs.Apart.{AreApart, DifferInRow, DifferInRowOrStyle}
-use Rattle.xs_check.specs.Standing.{StandApart, stands}
-use Rattle.xs_check.specs.declared.standing.Rows.{Rows}
+use Rattle.xs_check.specs.Apart.{ShareNoRow}
 
-abbrev pub peg_key_stands : PegKeyRecord → Rows
-peg_key_stands = stands (λ k. 0) (λ k. k.row) (λ k. k.row)
-
--- keys of one style are a group
-abbrev pub style_key_stands : StyleKeyRecord → Rows
-style_key_stands = stands (λ k. k.style) (λ k. k.row) (λ k. k.row)
-
-abbrev pub cell_stands : ExposureRecord → Rows
-cell_stands = stands (λ e. 0) (λ e. e.from) (λ e. e.to)
-
-pub peg_keys_told : (a b : PegKeyRecord) → DifferInRow a b ↔ StandApart (peg_key_stands a) (peg_key_stands b)
-unfolding StandApart
+pub peg_keys_told : (a b : PegKeyRecord) → DifferInRow a b ↔ ShareNoRow (λ (k : PegKeyRecord). 0) (λ k. k.row) (λ k. k.row) a b
+unfolding ShareNoRow
 peg_keys_told a b = (
   λ differ group row after_a before_a after_b before_b.
       differ (le_antisymm (le_trans after_a before_b) (le_trans after_b before_a)),
@@ -27,8 +16,9 @@ peg_keys_told a b = (
       (subst (λ (n : ℕ). a.row ≤ n) same (le_refl a.row)),
 )
 
-pub style_keys_told : (a b : StyleKeyRecord) → DifferInRowOrStyle a b ↔ StandApart (style_key_stands a) (style_key_stands b)
-unfolding StandApart
+-- keys of one style are a group
+pub style_keys_told : (a b : StyleKeyRecord) → DifferInRowOrStyle a b ↔ ShareNoRow (λ (k : StyleKeyRecord). k.style) (λ k. k.row) (λ k. k.row) a b
+unfolding ShareNoRow
 style_keys_told a b = (
   λ differ style row after_a before_a after_b before_b.
       differ style (le_antisymm (le_trans after_a before_b) (le_trans after_b before_a)),
@@ -37,6 +27,6 @@ style_keys_told a b = (
       (subst (λ (n : ℕ). a.row ≤ n) same (le_refl a.row)),
 )
 
-pub cells_told : (a b : ExposureRecord) → AreApart a b ↔ StandApart (cell_stands a) (cell_stands b)
-unfolding StandApart
+pub cells_told : (a b : ExposureRecord) → AreApart a b ↔ ShareNoRow (λ (e : ExposureRecord). 0) (λ e. e.from) (λ e. e.to) a b
+unfolding ShareNoRow
 cells_told a b = (λ apart group. apart, λ apart. apart refl)

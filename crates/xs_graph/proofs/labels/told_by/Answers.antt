@@ -3,7 +3,7 @@ use Rattle.xs_graph.specs.First.{IsFirstWithout}
 use Rattle.xs_graph.specs.Labels.{NeverRise, Falls}
 use Rattle.xs_graph.specs.Paths.{Links}
 use Rattle.xs_graph.proofs.Levels.{first_on_cycle_told}
-use Rattle.xs_graph.proofs.labels.first_by_labels.Goals as goal
+use Rattle.xs_graph.proofs.labels.told_by.Goals as goal
 
 pub returns-then-branch : goal.returns-then-branch
 returns-then-branch c =
