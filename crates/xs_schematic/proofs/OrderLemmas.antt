@@ -1,6 +1,7 @@
 -- The order of visits has every node once, and each after its inputs
-use Rattle.std.proofs.Common.{◌≡◌, ℕ, zero, suc, true, false, cond, ◌+◌, ◌-◌, ◌<◌, ◌≤◌, length, get_or, slice_get, zero-add, map-id, Option, Some, None, List, [], ◌∷◌, ◌++◌, All, Contains, refl, sym, ap, ◌∙◌, subst, arith}
+use Rattle.std.proofs.Common.{◌≡◌, ℕ, zero, suc, true, false, cond, ◌+◌, ◌-◌, ◌<◌, ◌≤◌, length, get_or, slice_get, zero-add, map-id, Option, Some, None, List, [], ◌∷◌, ◌++◌, Contains, refl, sym, ap, ◌∙◌, subst, arith}
 use Rattle.std.specs.List.{range_with_len, AllByRecursion as Each}
+use Rattle.std.proofs.lemmas.Bool.{cond_both}
 use Rattle.std.proofs.lemmas.List.Elements.{All-from_recursion, recursion_from_All}
 use Rattle.std.proofs.lemmas.List.FromFn.{length-range_with_len, get_or-range_with_len, map-range_with_len_more}
 use Rattle.xs_scene.specs.declared.node.Ref.{Ref}
@@ -9,7 +10,6 @@ use Rattle.xs_scene.specs.declared.node.Node.{Node}
 use Rattle.xs_scene.specs.declared.node.Node.TheVariants.{Pair, Card, Shuffle, Blur, Keep, Delete}
 use Rattle.xs_scene.specs.Records.{SheetRecord}
 use Rattle.xs_meaning.specs.Ends.{NodesEnd, InputsHave}
-use Rattle.xs_meaning.proofs.Lists.{by_test}
 use Rattle.xs_meaning.specs.Palettes.{is_listed}
 use Rattle.xs_schematic.specs.Once.{with_one}
 use Rattle.xs_schematic.specs.Order.{IsOrderable, IsOrder}
@@ -69,7 +69,7 @@ IsVisited-visit_node k orderable (suc m) n node ends order begun =
     in
     let new = visit_all (visit_node nodes m) inputs order in
     let put = IsVisited-with_one nodes new n node (All-from_recursion (Contains new) inputs all.has) all.begun in
-    by_test (IsVisited nodes order n) (is_listed order n) order (with_one new n)
+    cond_both (is_listed order n) order (with_one new n) (IsVisited nodes order n)
     (λ stands. record { begun = begun; keeps = λ x at. at; has = Contains-listed order n stands })
     (λ fails. record { begun = put.begun; keeps = λ x at. put.keeps x (all.keeps x at); has = put.has })
 

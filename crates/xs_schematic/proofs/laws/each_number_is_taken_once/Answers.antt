@@ -1,4 +1,4 @@
-use Rattle.xs_schematic.proofs.OnceLemmas.{fresh-append, fresh-each_once, fresh-known, Contains-fresh, fresh-has, each_once-once}
+use Rattle.xs_schematic.proofs.OnceLemmas.{fresh-append, fresh-each_once, fresh-known, Contains-fresh, fresh-has, with_each-one, each_once-once}
 use Rattle.xs_schematic.proofs.laws.each_number_is_taken_once.Goals as goal
 
 pub returns : goal.returns
@@ -9,5 +9,6 @@ returns c =
       nothing_new = fresh-known;
       members = Contains-fresh;
       found = fresh-has;
+      alone = with_each-one;
       once = each_once-once;
     }
