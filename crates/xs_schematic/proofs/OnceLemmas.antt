@@ -1,9 +1,9 @@
 -- Numbers that are taken once
-use Rattle.std.proofs.Common.{◌≡◌, ◌≢◌, ℕ, suc, Bool, true, false, ◌||◌, cond, eqb, get_or, List, [], ◌∷◌, ◌++◌, All, AllPairs, Contains, refl, sym, ap, ◌∙◌, subst, append_assoc, append-nil, ⊎_elim, arith}
+use Rattle.std.proofs.Common.{◌≡◌, ◌≢◌, ℕ, suc, Bool, true, false, ◌||◌, cond, eqb, get_or, List, [], ◌∷◌, ◌++◌, All, AllPairs, Contains, refl, sym, ap, ap₂, ◌∙◌, subst, append_assoc, append-nil, ⊎_elim, arith}
 use Rattle.std.proofs.lemmas.Bool.{eqb-true, eq-eqb, both_ways, cond_both}
 use Rattle.std.proofs.lemmas.List.{get_or_default}
-use Rattle.std.proofs.lemmas.List.Elements.{All-head, All-tail, All-cons, Contains-push, Contains-append_left, Contains-append_right, Contains-append_cases, Contains-push_cases}
-use Rattle.std.proofs.lemmas.List.Folds.{list_any_at}
+use Rattle.std.proofs.lemmas.List.Elements.{All-contains, All-head, All-tail, All-cons, Contains-push, Contains-append_left, Contains-append_right, Contains-append_cases, Contains-push_cases}
+use Rattle.std.proofs.lemmas.List.Folds.{list_any_at, list_any-append}
 use Rattle.std.proofs.lemmas.List.Quantifiers.{all_pairs_push}
 use Rattle.xs_meaning.specs.Palettes.{is_listed}
 use Rattle.xs_schematic.specs.Once.{fresh, each_once, with_one, with_each}
@@ -107,6 +107,47 @@ Contains-fresh known (x ∷ xs) d =
     ⊎_elim (λ here. Contains-append_left (x ∷ []) xs d here)
     (λ later. Contains-append_right (x ∷ []) xs d (Contains-fresh (known ++ x ∷ []) xs d later))
     (Contains-append_cases (x ∷ []) (fresh (known ++ x ∷ []) xs) d at))
+
+-- only which numbers are known matters
+fresh-same :
+    (known other xs : List ℕ) → ((d : ℕ) → is_listed known d ≡ is_listed other d) → fresh known xs ≡ fresh other xs
+unfolding fresh
+fresh-same known other [] same = refl
+fresh-same known other (x ∷ xs) same =
+    ap (λ b. cond b (fresh known xs) (x ∷ fresh (known ++ x ∷ []) xs)) (same x)
+    ∙ ap₂ (λ l m. cond (is_listed other x) l (x ∷ m)) (fresh-same known other xs same)
+    (fresh-same (known ++ x ∷ []) (other ++ x ∷ []) xs
+    (λ d.
+    list_any-append (λ m. eqb m d) known (x ∷ []) ∙ ap (λ b. b || is_listed (x ∷ []) d) (same d)
+    ∙ sym (list_any-append (λ m. eqb m d) other (x ∷ []))))
+
+same_tests : (a b : Bool) → (a ≡ true → b ≡ true) → (b ≡ true → a ≡ true) → a ≡ b
+same_tests true b leads back = sym (leads refl)
+same_tests false true leads back = back refl
+same_tests false false leads back = refl
+
+pub fresh-append_all : (known xs ys : List ℕ) → fresh known (xs ++ ys) ≡ fresh known xs ++ fresh (known ++ xs) ys
+fresh-append_all known xs ys =
+    fresh-append known xs ys
+    ∙ ap (λ l. fresh known xs ++ l)
+    (fresh-same (known ++ fresh known xs) (known ++ xs) ys
+    (λ d. same_tests (is_listed (known ++ fresh known xs) d) (is_listed (known ++ xs) d) (taken d) (all d)))
+  where
+    either : (front back other : List ℕ) (d : ℕ) → (Contains front d → Contains other d) → (Contains back d → Contains other d)
+        → is_listed (front ++ back) d ≡ true → is_listed other d ≡ true
+    either front back other d first second listed =
+        listed-Contains other d
+        (⊎_elim first second (Contains-append_cases front back d (Contains-listed (front ++ back) d listed)))
+
+    taken : (d : ℕ) → is_listed (known ++ fresh known xs) d ≡ true → is_listed (known ++ xs) d ≡ true
+    taken d =
+        either known (fresh known xs) (known ++ xs) d (Contains-append_left known xs d)
+        (λ at. Contains-append_right known xs d (Contains-fresh known xs d at))
+
+    all : (d : ℕ) → is_listed (known ++ xs) d ≡ true → is_listed (known ++ fresh known xs) d ≡ true
+    all d =
+        either known xs (known ++ fresh known xs) d (Contains-append_left known (fresh known xs) d)
+        (λ at. All-contains (Contains (known ++ fresh known xs)) xs d (fresh-has known xs) at)
 
 choose :
     (b : Bool) (u v u' v' : List ℕ) → (b ≡ true → u ≡ u') → (b ≡ false → v ≡ v') → cond b u v ≡ cond b u' v'

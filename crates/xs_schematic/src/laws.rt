@@ -8,6 +8,8 @@ ghost use Rattle.xs_schematic.specs.Once.{fresh, each_once, with_one, with_each}
 pub fn each_number_is_taken_once()
     ensures one_after_another { (known xs ys : List ℕ)
         → fresh known (xs ++ ys) ≡ fresh known xs ++ fresh (known ++ fresh known xs) ys }
+    ensures all_of_the_first_known { (known xs ys : List ℕ)
+        → fresh known (xs ++ ys) ≡ fresh known xs ++ fresh (known ++ xs) ys }
     ensures once_is_enough { (known xs : List ℕ) → fresh known (each_once xs) ≡ fresh known xs }
     ensures nothing_new { (known xs : List ℕ) → All (Contains known) xs → fresh known xs ≡ [] }
     ensures members { (known xs : List ℕ) (d : ℕ) → Contains (fresh known xs) d → Contains xs d }
