@@ -1,5 +1,6 @@
 -- Numbers that are taken once
 use Rattle.std.proofs.Common.{◌≡◌, ◌≢◌, ℕ, suc, Bool, true, false, ◌||◌, cond, eqb, get_or, List, [], ◌∷◌, ◌++◌, All, AllPairs, Contains, refl, sym, ap, ap₂, ◌∙◌, subst, append_assoc, append-nil, ⊎_elim, arith}
+use Rattle.std.specs.Cmp.{both_ways as same_tests}
 use Rattle.std.proofs.lemmas.Bool.{eqb-true, eq-eqb, both_ways, cond_both}
 use Rattle.std.proofs.lemmas.List.{get_or_default}
 use Rattle.std.proofs.lemmas.List.Elements.{All-contains, All-head, All-tail, All-cons, Contains-push, Contains-append_left, Contains-append_right, Contains-append_cases, Contains-push_cases}
@@ -120,11 +121,6 @@ fresh-same known other (x ∷ xs) same =
     (λ d.
     list_any-append (λ m. eqb m d) known (x ∷ []) ∙ ap (λ b. b || is_listed (x ∷ []) d) (same d)
     ∙ sym (list_any-append (λ m. eqb m d) other (x ∷ []))))
-
-same_tests : (a b : Bool) → (a ≡ true → b ≡ true) → (b ≡ true → a ≡ true) → a ≡ b
-same_tests true b leads back = sym (leads refl)
-same_tests false true leads back = back refl
-same_tests false false leads back = refl
 
 pub fresh-append_all : (known xs ys : List ℕ) → fresh known (xs ++ ys) ≡ fresh known xs ++ fresh (known ++ xs) ys
 fresh-append_all known xs ys =
