@@ -42,9 +42,6 @@ shown_of palettes g palette (Some colouring) p =
     (get_or (map (colour_under colouring) words) (place_in_box g.x0 g.y0 g.w p.x p.y) clear) clear)
     (own_words g.kind g.bytes)
 
-same_some : {A : Type 0} {x y : A} → Some x ≡ Some y → x ≡ y
-same_some e = cc
-
 slot-shown :
     (palettes : List (List Channels)) (slot : Option (Raw × Option ℕ)) (g : Raw) (colouring : Option Colouring) (p : Point)
     → option_map (λ (slot : Raw × Option ℕ). slot.0) slot ≡ Some g
@@ -52,7 +49,7 @@ slot-shown :
     ≡ drawing_pixel (option_map (λ (slot : Raw × Option ℕ). picture_of palettes slot.0 slot.1) slot) colouring p
 slot-shown palettes None g colouring p is = absurd (let e : None ≡ Some g = is in cc)
 slot-shown palettes (Some (held, palette)) g colouring p is =
-    ap (λ g. shown_pixel colouring g p) (sym (same_some is)) ∙ sym (shown_of palettes held palette colouring p)
+    ap (λ g. shown_pixel colouring g p) (let same : g ≡ held = cc in same) ∙ sym (shown_of palettes held palette colouring p)
 
 slot-clear :
     (palettes : List (List Channels)) (slot : Option (Raw × Option ℕ)) (colouring : Option Colouring) (p : Point)
@@ -80,7 +77,7 @@ palette_by :
     (palettes : List ColoursRecord) (level : Option LevelRecord) (k : Kind) → option_map (λ (l : LevelRecord). l.kind) level ≡ Some k
     → option_and_then (λ (l : LevelRecord). palette_of palettes l.kind) level ≡ palette_of palettes k
 palette_by palettes None k is = absurd (let e : None ≡ Some k = is in cc)
-palette_by palettes (Some l) k is = ap (palette_of palettes) (same_some is)
+palette_by palettes (Some l) k is = ap (palette_of palettes) (let same : l.kind ≡ k = cc in same)
 
 colouring_by :
     (s : SceneRecord) (d row : ℕ) (f : Dropped) (k : Kind) → option_map (λ (l : LevelRecord). l.kind) (level_of s.levels d) ≡ Some k

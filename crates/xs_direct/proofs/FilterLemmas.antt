@@ -1,5 +1,6 @@
 -- What one more filter drops
-use Rattle.std.proofs.Common.{ℕ, ◌≡◌, Bool, true, false, List, Bor, ◌||◌, eqb, refl, rules}
+use Rattle.std.proofs.Common.{ℕ, ◌≡◌, true, false, List, Bor, eqb, refl, rules}
+use Rattle.std.proofs.Math.Bool.{or-true}
 use Rattle.xs_pixel.specs.Channels.{clear}
 use Rattle.xs_scene.specs.Records.{ColoursRecord}
 use Rattle.xs_meaning.specs.Palettes.{Dropped, none_dropped, keeping, deleting, style_at}
@@ -15,14 +16,10 @@ dropped_of-Keep styles outer = search (rules, the_lemmas)
 pub dropped_of-Delete : (styles : Bor (List ℕ)) (outer : Bor Filters) → dropped_of (Delete styles outer) ≡ deleting styles.now (dropped_of outer.now)
 dropped_of-Delete styles outer = search (rules, the_lemmas)
 
-or_true : (b : Bool) → (b || true) ≡ true
-or_true true = refl
-or_true false = refl
-
 -- a dropped style is clear, and another one is as without filters
 pub style_at-dropped : (c : ColoursRecord) (row : ℕ) (f : Dropped) (style : ℕ) → f style ≡ true → clear ≡ style_at c row f style
 unfolding style_at
-style_at-dropped c row f style dropped = rw (dropped, or_true (eqb style 0)) refl
+style_at-dropped c row f style dropped = rw (dropped, or-true (eqb style 0)) refl
 
 pub style_at-kept : (c : ColoursRecord) (row : ℕ) (f : Dropped) (style : ℕ) → f style ≡ false → style_at c row none_dropped style ≡ style_at c row f style
 unfolding style_at

@@ -1,20 +1,19 @@
 -- The bytes of a frame, pixel by pixel and line by line
-use Rattle.std.proofs.Common.{ℕ, suc, ◌≡◌, ◌+◌, ℤ, pos, ◌+ℤ◌, List, [], ◌∷◌, ◌++◌, append_assoc, append-nil, length, map, flat_map, refl, sym, ap, ap₂, ◌∙◌, arith}
+use Rattle.std.proofs.Common.{ℕ, ◌≡◌, ◌+◌, ℤ, pos, ◌+ℤ◌, List, [], ◌∷◌, ◌++◌, append_assoc, length, map, flat_map, refl, sym, ap, ap₂, ◌∙◌, arith}
 use Rattle.std.specs.List.{range_with_len}
 use Rattle.std.proofs.lemmas.List.FromFn.{map-range_with_len_more}
-use Rattle.std.proofs.lemmas.List.Concat.{flat_map-append}
 use Rattle.xs_pixel.specs.Channels.{Channels}
 use Rattle.xs_pixel.specs.Rows.{pixels}
 use Rattle.xs_raster.specs.Bitmap.{bytes_of}
-use Rattle.xs_rawfile.specs.Level.{four_bytes}
+use Rattle.xs_rawfile.specs.Frame.{frame_header_of}
 use Rattle.xs_scene.specs.Records.{SceneRecord}
 use Rattle.xs_meaning.specs.Drawings.{Pictures}
 use Rattle.xs_meaning.specs.Palettes.{Dropped}
 use Rattle.xs_meaning.specs.Points.{Point, point}
 use Rattle.xs_meaning.specs.Rows.{row_of, row_under, frame_pixel, camera_at}
-use Rattle.xs_direct.specs.Frames.{frame_file, line_of}
+use Rattle.xs_direct.specs.Frames.{frame_file, frame_line}
 use Rattle.xs_direct.specs.Values.{row_within}
-use Rattle.xs_direct.proofs.SumLemmas.{range_push}
+use Rattle.xs_direct.proofs.SumLemmas.{lines-push}
 
 -- sheets are nested at most 16 deep
 pub row-whole :
@@ -26,16 +25,13 @@ bytes_of-append : (ps qs : List Channels) → bytes_of (ps ++ qs) ≡ bytes_of p
 bytes_of-append [] qs = refl
 bytes_of-append (p ∷ ps) qs = ap (λ bytes. p.r ∷ p.g ∷ p.b ∷ p.m ∷ bytes) (bytes_of-append ps qs)
 
-same_first : {A : Type 0} {x y : A} {xs ys : List A} → x ∷ xs ≡ y ∷ ys → x ≡ y
-same_first e = cc
-
 -- four bytes of one pixel
 bytes_of-pixel : (bytes : List ℕ) (p : Channels) → length bytes ≡ 4 → pixels bytes ≡ p ∷ [] → bytes ≡ bytes_of (p ∷ [])
 bytes_of-pixel [] p four one = absurd (omega arith)
 bytes_of-pixel (a ∷ []) p four one = absurd (omega arith)
 bytes_of-pixel (a ∷ b ∷ []) p four one = absurd (omega arith)
 bytes_of-pixel (a ∷ b ∷ c ∷ []) p four one = absurd (omega arith)
-bytes_of-pixel (a ∷ b ∷ c ∷ d ∷ []) p four one = ap (λ (q : Channels). bytes_of (q ∷ [])) (same_first one)
+bytes_of-pixel (a ∷ b ∷ c ∷ d ∷ []) p four one = ap (λ (q : Channels). bytes_of (q ∷ [])) (let same : record { r = a; g = b; b = c; m = d } ≡ p = cc in same)
 bytes_of-pixel (a ∷ b ∷ c ∷ d ∷ e ∷ rest) p four one = absurd (omega arith)
 
 after :
@@ -52,14 +48,6 @@ pub pixel_more :
 pixel_more start bytes new more f i p were is four one pixel =
     after start bytes new more (map f (range_with_len 0 i)) (f i ∷ []) (map f (range_with_len 0 (i + 1))) were is
     (bytes_of-pixel more (f i) four (one ∙ ap (λ q. q ∷ []) pixel)) (map-range_with_len_more f 0 i i (omega arith))
-
-lines-push : (line : ℕ → List Channels) (y : ℕ) → flat_map line (range_with_len 0 (y + 1)) ≡ flat_map line (range_with_len 0 y) ++ line y
-lines-push line y =
-    ap (λ m. flat_map line (range_with_len 0 m)) (let e : y + 1 ≡ suc y = omega arith in e)
-    ∙ ap (flat_map line) (range_push 0 y)
-    ∙ flat_map-append line (range_with_len 0 y) ((0 + y) ∷ [])
-    ∙ ap (λ k. flat_map line (range_with_len 0 y) ++ k)
-    (append-nil (line (0 + y)) ∙ ap line (let e : 0 + y ≡ y = omega arith in e))
 
 pub line_more :
     (start bytes new : List ℕ) (line : ℕ → List Channels) (y : ℕ) → bytes ≡ start ++ bytes_of (flat_map line (range_with_len 0 y))
@@ -79,14 +67,10 @@ framed s px row x y cx cy px' py' across up camera =
 
 -- the bytes before the pixels, and the lines
 pub frame-file :
-    (s : SceneRecord) (px : Pictures) (row w h : ℕ) (header bytes : List ℕ)
-    → header ≡ (88 ∷ 70 ∷ 82 ∷ 49 ∷ []) ++ four_bytes w ++ four_bytes h
-    → bytes ≡ header ++ bytes_of (flat_map (λ y. line_of s px row y w) (range_with_len 0 h))
+    (s : SceneRecord) (px : Pictures) (row w h : ℕ) (header bytes : List ℕ) → header ≡ frame_header_of w h
+    → bytes ≡ header ++ bytes_of (flat_map (λ y. frame_line s px row y w) (range_with_len 0 h))
     → w ≡ s.camera.w → h ≡ s.camera.h → bytes ≡ frame_file s px row
 unfolding frame_file
 frame-file s px row w h header bytes begins is across up =
-    is ∙ ap (λ xs. xs ++ bytes_of (flat_map (λ y. line_of s px row y w) (range_with_len 0 h))) begins
-    ∙ ap₂
-    (λ (w h : ℕ).
-    (88 ∷ 70 ∷ 82 ∷ 49 ∷ []) ++ four_bytes w ++ four_bytes h ++ bytes_of (flat_map (λ y. line_of s px row y w) (range_with_len 0 h)))
-    across up
+    is ∙ ap (λ xs. xs ++ bytes_of (flat_map (λ y. frame_line s px row y w) (range_with_len 0 h))) begins
+    ∙ ap₂ (λ (w h : ℕ). frame_header_of w h ++ bytes_of (flat_map (λ y. frame_line s px row y w) (range_with_len 0 h))) across up

@@ -1,9 +1,9 @@
 -- A frame from the drawings that are held is that of the pictures that are told
 use Rattle.std.proofs.Common.{ℕ, ◌≡◌, ◌∙◌, ◌+◌, ◌<◌, ◌↔◌, All, Contains, length, take, get_or, subst, ◌++◌, Option, Some, None, IsSome, IfSome, List, [], ◌∷◌, pos, map, flat_map, slice_get, option_map, option_and_then, refl, sym, ap}
-use Rattle.std.specs.List.{range_with_len, AllByRecursion}
-use Rattle.std.specs.Simd.Lanes.{Each1}
-use Rattle.std.proofs.lemmas.List.Elements.{All-from_recursion, All-contains, All-push, Contains-get_or}
+use Rattle.std.specs.List.{range_with_len}
+use Rattle.std.proofs.lemmas.List.Elements.{All-contains, All-push, Contains-get_or}
 use Rattle.std.proofs.lemmas.List.{take_more}
+use Rattle.std.proofs.lemmas.Simd.{Each1-get_or}
 use mathlib.Core.Path.{fun_ext}
 use Rattle.xs_pixel.specs.Channels.{Channels, IsPixel}
 use Rattle.xs_pixel.specs.Picture.{Picture}
@@ -13,7 +13,7 @@ use Rattle.xs_raster.specs.Bitmap.{bitmap}
 use Rattle.xs_rawfile.specs.declared.drawing.RawKind.{RawKind}
 use Rattle.xs_rawfile.specs.declared.drawing.RawKind.TheVariants.{Colour, Cm32}
 use Rattle.xs_rawfile.specs.Raw.{Raw, Fills}
-use Rattle.xs_rawfile.specs.Frame.{frame_of as file_of}
+use Rattle.xs_rawfile.specs.Frame.{frame_file_of}
 use Rattle.xs_rawfile.specs.Held.{Held, IsHeld, IsIn, slot_in, drawing_in, picture_of, content_of}
 use Rattle.xs_scene.specs.InRange.{IsInRange}
 use Rattle.xs_scene.specs.Records.{SceneRecord}
@@ -26,12 +26,8 @@ use Rattle.xs_schematic.specs.Once.{fresh, each_once}
 use Rattle.xs_direct.specs.Frames.{frame_file}
 use Rattle.xs_direct.specs.Pictures.{pictures_in, AreHeld}
 
-each-recursion : {A : Type 0} (P : A → Type 0) (xs : List A) → Each1 P xs → AllByRecursion P xs
-each-recursion P [] each = tt
-each-recursion P (x ∷ xs) each = (each.0, each-recursion P xs each.1)
-
-filled : (kind : RawKind) (bytes : List ℕ) → Fills kind bytes → HoldsPixels (content_of kind bytes)
-filled Colour bytes fills = All-from_recursion IsPixel (pixels bytes) (each-recursion IsPixel (pixels bytes) fills)
+pub filled : (kind : RawKind) (bytes : List ℕ) → Fills kind bytes → HoldsPixels (content_of kind bytes)
+filled Colour bytes fills = λ i d lt. Each1-get_or IsPixel (pixels bytes) i d lt fills
 filled Cm32 bytes fills = tt
 
 in_slot : {X : Type 0} (o : Option (Option X)) (x : X) → option_and_then (λ (slot : Option X). slot) o ≡ Some x → o ≡ Some (Some x)
@@ -81,7 +77,7 @@ unfolding frame_file
 same-frame s pictures others row same =
     ap
     (λ (image : Image).
-    file_of (bitmap (area (pos 0) (pos 0) s.camera.w s.camera.h)
+    frame_file_of (bitmap (area (pos 0) (pos 0) s.camera.w s.camera.h)
     (flat_map (λ y. map (λ x. image (point (pos x) (pos y))) (range_with_len 0 s.camera.w)) (range_with_len 0 s.camera.h))))
     (fun_ext same)
 
@@ -99,19 +95,9 @@ told-frame s told h pictures row own range held tells pixels are =
 
 -- ---- whether drawings are held
 
-not_held : (slot : Option (Raw × Option ℕ)) → option_map (λ (slot : Raw × Option ℕ). slot.0) slot ≡ None → IsSome slot → ⊥
-not_held None none some = absurd (let e : IsSome {T = Raw × Option ℕ} None = some in cc)
-not_held (Some slot) none some = cc
-
 held_slot : (slot : Option (Raw × Option ℕ)) → (option_map (λ (slot : Raw × Option ℕ). slot.0) slot ≡ None → ⊥) → IsSome slot
 held_slot None some = absurd (some refl)
 held_slot (Some slot) some = refl
-
--- one drawing that is not held decides
-pub held-fails :
-    (h : Held) (ds : List ℕ) (i : ℕ) (d : ℕ) → i < length ds → d ≡ get_or ds i d → drawing_in h d ≡ None → AreHeld h ds → ⊥
-held-fails h ds i d within is none are =
-    not_held (slot_in h d) none (subst (λ (e : ℕ). IsSome (slot_in h e)) (sym is) (are i d within))
 
 -- one more that is held
 pub held-more :

@@ -1,12 +1,13 @@
 -- Sums over the squares of blurs
-use Rattle.std.proofs.Common.{ℕ, zero, suc, ◌≡◌, ◌+◌, ◌*◌, ◌≤◌, pos, ◌-ℤ◌, List, [], ◌∷◌, ◌++◌, map, flat_map, append-nil, refl, sym, ap, ◌∙◌, subst, arith}
+use Rattle.std.proofs.Common.{ℕ, ◌≡◌, ◌+◌, ◌*◌, ◌≤◌, pos, ◌-ℤ◌, List, [], ◌∷◌, ◌++◌, map, flat_map, map-id, append-nil, refl, sym, ap, ◌∙◌, subst, arith}
 use Rattle.std.specs.List.{range_with_len}
 use Rattle.std.proofs.lemmas.List.Sums.{sum_by_push, sum_by-append}
 use Rattle.std.proofs.lemmas.List.FromFn.{map-range_with_len_more}
 use Rattle.std.proofs.lemmas.List.Concat.{flat_map-append}
 use Rattle.std.proofs.lemmas.List.Folds.{flat_map-map}
 use Rattle.std.proofs.Math.Nat.{mul-le-mul_left}
-use mathlib.Core.Path.{ap₂}
+use Rattle.std.proofs.lemmas.Simd.{map-map}
+use mathlib.Core.Path.{ap₂, fun_ext}
 use Rattle.xs_pixel.specs.Channels.{Channels, clear}
 use Rattle.xs_meaning.specs.Points.{Point, point, plus, span, square}
 use Rattle.xs_meaning.specs.Rows.{Image, blurred}
@@ -74,20 +75,19 @@ line_more image p at n j i sums pixel new were there is sum =
     ∙ sym (sums_at-push image p offset (line_of n j i))
     ∙ ap (sums_at image p) (sym (map-range_with_len_more (λ i. point (pos i -ℤ pos n) (pos j -ℤ pos n)) 0 i i (omega arith)))
 
-pub range_push : (a n : ℕ) → range_with_len a (suc n) ≡ range_with_len a n ++ (a + n) ∷ []
-range_push a zero = ap (λ m. m ∷ []) (let e : a ≡ a + 0 = omega arith in e)
-range_push a (suc n) =
-    ap (λ xs. a ∷ xs)
-    (range_push (a + 1) n ∙ ap (λ m. range_with_len (a + 1) n ++ m ∷ []) (let e : a + 1 + n ≡ a + suc n = omega arith in e))
+-- one more line
+pub lines-push : {A : Type 0} (line : ℕ → List A) (j : ℕ)
+    → flat_map line (range_with_len 0 (j + 1)) ≡ flat_map line (range_with_len 0 j) ++ line j
+lines-push line j =
+    ap (flat_map line)
+    (sym (map-id (range_with_len 0 (j + 1))) ∙ map-range_with_len_more (λ k. k) 0 j j (omega arith)
+    ∙ ap (λ ks. ks ++ j ∷ []) (map-id (range_with_len 0 j)))
+    ∙ flat_map-append line (range_with_len 0 j) (j ∷ [])
+    ∙ ap (λ ys. flat_map line (range_with_len 0 j) ++ ys) (append-nil (line j))
 
 lines-more : (n j : ℕ) → lines_of n (j + 1) ≡ lines_of n j ++ line_of n j (2 * n + 1)
 unfolding lines_of
-lines-more n j =
-    ap (λ m. flat_map (λ j. line_of n j (2 * n + 1)) (range_with_len 0 m)) (let e : j + 1 ≡ suc j = omega arith in e)
-    ∙ ap (flat_map (λ j. line_of n j (2 * n + 1))) (range_push 0 j)
-    ∙ flat_map-append (λ j. line_of n j (2 * n + 1)) (range_with_len 0 j) ((0 + j) ∷ [])
-    ∙ ap (λ k. flat_map (λ j. line_of n j (2 * n + 1)) (range_with_len 0 j) ++ k)
-    (append-nil (line_of n (0 + j) (2 * n + 1)) ∙ ap (λ j. line_of n j (2 * n + 1)) (let e : 0 + j ≡ j = omega arith in e))
+lines-more n j = lines-push (λ j. line_of n j (2 * n + 1)) j
 
 -- one more line of a square
 pub lines_more :
@@ -99,20 +99,12 @@ lines_more image p n j sums line new were is sum =
     ∙ sym (sums_at-append image p (lines_of n j) (line_of n j (2 * n + 1)))
     ∙ ap (sums_at image p) (sym (lines-more n j))
 
-map-map : {A B C : Type 0} (f : B → C) (g : A → B) (xs : List A) → map f (map g xs) ≡ map (λ x. f (g x)) xs
-map-map f g [] = refl
-map-map f g (x ∷ xs) = ap (λ ys. f (g x) ∷ ys) (map-map f g xs)
-
-flat_map-same : {A B : Type 0} (f g : A → List B) (xs : List A) → ((x : A) → f x ≡ g x) → flat_map f xs ≡ flat_map g xs
-flat_map-same f g [] same = refl
-flat_map-same f g (x ∷ xs) same = ap₂ (λ ys zs. ys ++ zs) (same x) (flat_map-same f g xs same)
-
 square-lines : (n : ℕ) → square n ≡ lines_of n (2 * n + 1)
 unfolding lines_of
 square-lines n =
     flat_map-map (λ j. map (λ i. point i j) (span n)) (λ k. pos k -ℤ pos n) (range_with_len 0 (2 * n + 1))
-    ∙ flat_map-same (λ k. map (λ i. point i (pos k -ℤ pos n)) (span n)) (λ j. line_of n j (2 * n + 1)) (range_with_len 0 (2 * n + 1))
-    (λ k. map-map (λ i. point i (pos k -ℤ pos n)) (λ i. pos i -ℤ pos n) (range_with_len 0 (2 * n + 1)))
+    ∙ ap (λ line. flat_map line (range_with_len 0 (2 * n + 1)))
+    (fun_ext (λ k. map-map (λ i. point i (pos k -ℤ pos n)) (λ i. pos i -ℤ pos n) (range_with_len 0 (2 * n + 1))))
 
 -- the mean over the square
 pub blurred-lines :

@@ -3,7 +3,7 @@ use Rattle.std.specs.List.{range_with_len}
 use Rattle.xs_pixel.specs.Channels.{Channels}
 use Rattle.xs_rect.specs.Area.{area}
 use Rattle.xs_raster.specs.Bitmap.{bitmap}
-use Rattle.xs_rawfile.specs.Frame.{frame_of as file_of}
+use Rattle.xs_rawfile.specs.Frame.{frame_file_of}
 use Rattle.xs_scene.specs.Records.{SceneRecord}
 use Rattle.xs_meaning.specs.Drawings.{Pictures}
 use Rattle.xs_meaning.specs.Points.{point}
@@ -12,9 +12,9 @@ use Rattle.xs_meaning.specs.Rows.{frame_of, frame_pixel}
 -- the raw frame file of a row: XFR1, the sides, and four bytes for each pixel from the lowest row up
 unfoldable pub frame_file : SceneRecord → Pictures → ℕ → List ℕ
 frame_file s pictures row =
-    file_of (bitmap (area (pos 0) (pos 0) s.camera.w s.camera.h) (frame_of s pictures row))
+    frame_file_of (bitmap (area (pos 0) (pos 0) s.camera.w s.camera.h) (frame_of s pictures row))
 
 -- the first pixels of the line of a frame with this y
-abbrev pub line_of : SceneRecord → Pictures → (row y count : ℕ) → List Channels
-line_of s pictures row y count =
+abbrev pub frame_line : SceneRecord → Pictures → (row y count : ℕ) → List Channels
+frame_line s pictures row y count =
     map (λ x. frame_pixel s pictures row (point (pos x) (pos y))) (range_with_len 0 count)

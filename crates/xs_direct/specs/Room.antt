@@ -1,18 +1,26 @@
 use Rattle.std.specs.Prelude.{ℕ, ◌+◌, ◌*◌, pos, neg_ℤ, ◌+ℤ◌, ◌-ℤ◌, ◌≤ℤ◌}
 use Rattle.xs_meaning.specs.Points.{Point}
 
--- a point that stays near the origin, below 2^30, where it moves so far
-pub record HasRoom (room : ℕ) (p : Point) : Type 0 where
-  pub left : neg_ℤ (pos 1073741824) ≤ℤ (p.x -ℤ pos room)
-  pub right : (p.x +ℤ pos room) ≤ℤ pos 1073741824
-  pub bottom : neg_ℤ (pos 1073741824) ≤ℤ (p.y -ℤ pos room)
-  pub top : (p.y +ℤ pos room) ≤ℤ pos 1073741824
+-- how far from the origin a point may be, along each axis: 2^30
+abbrev pub edge : ℕ
+edge = 1073741824
 
--- how far the place of a peg moves a point at most, each way
+-- a point that stays there when it moves by so much, each way
+pub record CanMove (room : ℕ) (p : Point) : Type 0 where
+  pub left : neg_ℤ (pos edge) ≤ℤ (p.x -ℤ pos room)
+  pub right : (p.x +ℤ pos room) ≤ℤ pos edge
+  pub bottom : neg_ℤ (pos edge) ≤ℤ (p.y -ℤ pos room)
+  pub top : (p.y +ℤ pos room) ≤ℤ pos edge
+
+-- how long the sides of a frame are at most
+abbrev pub frame_reach : ℕ
+frame_reach = 4096
+
+-- how far the place of a peg moves a point at most, each way: 64 pegs of 65,536
 abbrev pub peg_reach : ℕ
 peg_reach = 4194304
 
--- and one blur
+-- and one blur: its greatest radius
 abbrev pub blur_reach : ℕ
 blur_reach = 16
 

@@ -7,7 +7,7 @@ ghost use Rattle.xs_direct.specs.Filters.{dropped_of};
 ghost use Rattle.xs_direct.specs.Pictures.{pictures_in, shown_pixel};
 
 use crate::filters::Filters;
-use crate::spot::Spot;
+use crate::position::Position;
 use xs_check::GoodScene;
 use xs_cm32::{Cm32, colour};
 use xs_pixel::{Film, Pixel};
@@ -21,7 +21,7 @@ pub(crate) fn drawing_at<K: Film>(
     d: u32,
     row: u32,
     f: &Filters,
-    p: Spot,
+    p: Position,
 ) -> Pixel
     requires { d < length (files_of s.now.levels) }
     ensures { result ≡ drawing_pixel (pictures_in drawings.now d) (colouring_at s.now d row (dropped_of f.now)) p }
@@ -33,7 +33,7 @@ pub(crate) fn drawing_at<K: Film>(
 }
 
 /// The pixel of a drawing that is held, by the kind of its level.
-fn shown_at(s: &GoodScene, drawing: &Drawing, d: u32, row: u32, f: &Filters, p: Spot) -> Pixel
+fn shown_at(s: &GoodScene, drawing: &Drawing, d: u32, row: u32, f: &Filters, p: Position) -> Pixel
     requires { d < length (files_of s.now.levels) }
     ensures { result ≡ shown_pixel (colouring_at s.now d row (dropped_of f.now)) drawing.now p }
 {
@@ -50,7 +50,7 @@ fn coloured_at(
     palette: u32,
     row: u32,
     f: &Filters,
-    p: Spot,
+    p: Position,
 ) -> Pixel
     ensures { result ≡ shown_pixel (Some (pixel_of_style (slice_index_or s.now.palettes palette no_colours) row (dropped_of f.now))) drawing.now p }
 {

@@ -1,11 +1,17 @@
 ghost use Rattle.std.specs.Prelude.{◌≡◌};
 ghost use Rattle.xs_meaning.specs.Palettes.{is_listed};
 
+/// A filter names the styles below this one.
+const NAMEABLE: u32 = 4096;
+
 /// The palette filters on the way from a row to what it shows, the nearest one first.
 #[derive(Clone, Copy)]
 pub(crate) enum Filters<'a> {
+    /// No filter: every style passes.
     Open,
+    /// Of the styles that a filter can name only these pass, where the outer filters let them.
     Keep(&'a [u32], &'a Filters<'a>),
+    /// These styles are dropped, besides those that the outer filters drop.
     Delete(&'a [u32], &'a Filters<'a>),
 }
 
@@ -20,7 +26,7 @@ impl Filters<'_> {
         match self {
             Filters::Open => false,
             Filters::Keep(styles, outer) => {
-                outer.drops(style) || style < 4096 && !lists(styles, style)
+                outer.drops(style) || style < NAMEABLE && !lists(styles, style)
             }
             Filters::Delete(styles, outer) => outer.drops(style) || lists(styles, style),
         }

@@ -1,24 +1,23 @@
-ghost use Rattle.std.specs.Prelude.{◌≡◌, ◌++◌, ◌∷◌, [], ◌<◌, ◌≤◌, Some, IfOk, OnOk, flat_map};
+ghost use Rattle.std.specs.Prelude.{◌≡◌, ◌++◌, ◌^◌, ◌<◌, ◌≤◌, Some, IfOk, OnOk, flat_map};
 ghost use Rattle.std.specs.List.{range_with_len};
 ghost use Rattle.xs_raster.specs.Bitmap.{bytes_of};
-ghost use Rattle.xs_rawfile.specs.Level.{four_bytes};
 ghost use Rattle.xs_meaning.specs.Bounds.{IsWithin};
 ghost use Rattle.xs_meaning.specs.Drawings.{Pictures, ArePixels};
 ghost use Rattle.xs_meaning.specs.Expressions.{drawings_of, root_of};
 ghost use Rattle.xs_meaning.specs.Points.{point};
 ghost use Rattle.xs_meaning.specs.Rows.{row_of, camera_at};
-ghost use Rattle.xs_direct.specs.Frames.{frame_file, line_of};
+ghost use Rattle.xs_direct.specs.Frames.{frame_file, frame_line};
 ghost use Rattle.xs_direct.specs.Pictures.{pictures_in, AreHeld};
-ghost use Rattle.xs_direct.specs.Room.{peg_reach};
+ghost use Rattle.xs_direct.specs.Room.{frame_reach, peg_reach};
 
 use crate::filters::Filters;
-use crate::spot::Spot;
+use crate::position::Position;
 use crate::values::row_at;
 use std::alloc::Global;
 use xs_check::GoodScene;
 use xs_meaning::expressions::only_own_drawings_count;
 use xs_pixel::{Film, Memory, Pixel};
-use xs_rawfile::Drawings;
+use xs_rawfile::{Drawings, FRAME_HEADER, push_frame_header};
 
 /// How deep sheets can be nested.
 const DEEPEST: u32 = 16;
@@ -26,12 +25,9 @@ const DEEPEST: u32 = 16;
 /// The sheet whose rows are rendered.
 const FIRST: u32 = 0;
 
-/// How many bytes of a frame come before its pixels.
-const HEADER: usize = 12;
-
 /// The pixel of sheet 0's row at a point; drawings that are not held count as clear.
 pub fn pixel_at<K: Film>(s: &GoodScene, drawings: &Drawings<K>, row: u32, x: i32, y: i32) -> Pixel
-    requires { IsWithin 134217728 (point x y) }
+    requires { IsWithin (2 ^ 27) (point x y) }
     ensures { result ≡ row_of s.now (pictures_in drawings.now) 0 row (point x y) }
 {
     s.scene();
@@ -42,7 +38,7 @@ pub fn pixel_at<K: Film>(s: &GoodScene, drawings: &Drawings<K>, row: u32, x: i32
         FIRST,
         row,
         &Filters::Open,
-        Spot { x, y },
+        Position { x, y },
     )
 }
 
@@ -64,7 +60,9 @@ pub fn frame_direct<K: Film>(
     held_drawings_make_the_frame(s, drawings, row);
     let camera = &s.scene().camera;
     let corner = s.place(FIRST, camera.peg, row);
-    let mut bytes = header(alloc, camera.w, camera.h)?;
+    let pixels = camera.w as usize * camera.h as usize;
+    let mut bytes = Vec::with_capacity(alloc, FRAME_HEADER + 4 * pixels)?;
+    push_frame_header(&mut bytes, camera.w, camera.h)?;
     push_lines(&mut bytes, s, drawings, row, corner, camera.w, camera.h)?;
     Ok(bytes)
 }
@@ -81,19 +79,6 @@ pub fn held_drawings_make_the_frame<K: Film>(s: &GoodScene, drawings: &Drawings<
     only_own_drawings_count();
 }
 
-/// The bytes of a frame that come before its pixels, with room for these.
-fn header(alloc: Global, w: u32, h: u32) -> Result<Vec<u8>, Memory>
-    requires width { w ≤ 4096 }
-    requires height { h ≤ 4096 }
-    ensures { IfOk result (λ v. v.items ≡ (88 ∷ 70 ∷ 82 ∷ 49 ∷ []) ++ four_bytes w ++ four_bytes h) }
-{
-    let mut bytes = Vec::with_capacity(alloc, HEADER + 4 * (w as usize * h as usize))?;
-    bytes.extend_from_slice(b"XFR1")?;
-    bytes.extend_from_slice(&w.to_le_bytes())?;
-    bytes.extend_from_slice(&h.to_le_bytes())?;
-    Ok(bytes)
-}
-
 /// Puts the pixels of a frame last, where the camera stands at `corner`.
 fn push_lines<K: Film>(
     bytes: &mut Vec<u8>,
@@ -104,11 +89,11 @@ fn push_lines<K: Film>(
     w: u32,
     h: u32,
 ) -> Result<(), Memory>
-    requires width { w ≤ 4096 }
-    requires height { h ≤ 4096 }
+    requires width { w ≤ frame_reach }
+    requires height { h ≤ frame_reach }
     requires near { IsWithin peg_reach (point corner.0 corner.1) }
     requires camera { point corner.0 corner.1 ≡ camera_at s.now row }
-    ensures { OnOk result (bytes.new.items ≡ bytes.old.items ++ bytes_of (flat_map (λ y. line_of s.now (pictures_in drawings.now) row y w) (range_with_len 0 h))) }
+    ensures { OnOk result (bytes.new.items ≡ bytes.old.items ++ bytes_of (flat_map (λ y. frame_line s.now (pictures_in drawings.now) row y w) (range_with_len 0 h))) }
 {
     for y in 0..h {
         push_line(bytes, s, drawings, row, corner, w, y)?;
@@ -126,11 +111,11 @@ fn push_line<K: Film>(
     w: u32,
     y: u32,
 ) -> Result<(), Memory>
-    requires width { w ≤ 4096 }
-    requires height { y < 4096 }
+    requires width { w ≤ frame_reach }
+    requires height { y < frame_reach }
     requires near { IsWithin peg_reach (point corner.0 corner.1) }
     requires camera { point corner.0 corner.1 ≡ camera_at s.now row }
-    ensures { OnOk result (bytes.new.items ≡ bytes.old.items ++ bytes_of (line_of s.now (pictures_in drawings.now) row y w)) }
+    ensures { OnOk result (bytes.new.items ≡ bytes.old.items ++ bytes_of (frame_line s.now (pictures_in drawings.now) row y w)) }
 {
     for x in 0..w {
         let pixel = pixel_at(s, drawings, row, x as i32 + corner.0, y as i32 + corner.1);

@@ -4,14 +4,15 @@
 
 mod drawing;
 mod filters;
-pub mod frame;
-pub mod held;
+mod frame;
+mod held;
+pub mod laws;
+mod position;
 mod shuffle;
-mod spot;
 mod sums;
 mod values;
 
-pub use frame::{frame_direct, pixel_at};
+pub use frame::{frame_direct, held_drawings_make_the_frame, pixel_at};
 pub use held::are_drawings_held;
 
 #[cfg(test)]

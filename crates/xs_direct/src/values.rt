@@ -2,20 +2,20 @@
 //! nested sheets. `depth` counts nested sheets down, `below` the columns and nodes of one sheet.
 #![tactic(auto, using(crate::proofs::ValueLemmas::values))]
 
-ghost use Rattle.std.specs.Prelude.{◌≡◌, ◌+◌, ◌*◌, ◌<◌, ◌≤◌, None, Some, IfSome, MatchOption, length, slice_get};
+ghost use Rattle.std.specs.Prelude.{◌≡◌, ◌+◌, ◌*◌, ◌^◌, ◌<◌, ◌≤◌, None, Some, IfSome, MatchOption, length, slice_get};
 ghost use Rattle.xs_scene.specs.Ranges.{IsNode};
 ghost use Rattle.xs_meaning.specs.Rows.{blurred};
 ghost use Rattle.xs_meaning.specs.Walk.{sheet_at, column_at as the_column, terminals_by};
 ghost use Rattle.xs_direct.specs.Filters.{dropped_of};
 ghost use Rattle.xs_direct.specs.Pictures.{pictures_in};
-ghost use Rattle.xs_direct.specs.Room.{HasRoom, blur_reach, peg_reach, room_for, sheet_reach};
+ghost use Rattle.xs_direct.specs.Room.{CanMove, blur_reach, peg_reach, room_for, sheet_reach};
 ghost use Rattle.xs_direct.specs.Sums.{AreSums, sums_at, line_of};
 ghost use Rattle.xs_direct.specs.Values.{row_within, value_within, column_within, node_within, stack_of};
 
 use crate::drawing::drawing_at;
 use crate::filters::Filters;
+use crate::position::Position;
 use crate::shuffle::listed;
-use crate::spot::Spot;
 use crate::sums::Sums;
 use xs_check::GoodScene;
 use xs_pixel::{Film, Pixel, apply, over};
@@ -31,10 +31,10 @@ pub(crate) fn row_at<'a, K: Film>(
     k: u32,
     row: u32,
     f: &'a Filters<'a>,
-    p: Spot,
+    p: Position,
 ) -> Pixel
     requires sheet { k < length s.now.sheets }
-    requires room { HasRoom (sheet_reach * depth) p }
+    requires room { CanMove (sheet_reach * depth) p }
     ensures { result ≡ row_within s.now (pictures_in drawings.now) depth k row (dropped_of f.now) p }
 {
     if depth == 0 {
@@ -62,10 +62,10 @@ fn stacked<'a, K: Film>(
     terminals: &[Ref],
     row: u32,
     f: &'a Filters<'a>,
-    p: Spot,
+    p: Position,
 ) -> Pixel
     requires sheet { k < length s.now.sheets }
-    requires room { HasRoom (room_for depth below) p }
+    requires room { CanMove (room_for depth below) p }
     ensures { result ≡ stack_of (λ t. value_within s.now (pictures_in drawings.now) depth k below t row (dropped_of f.now) p) terminals.now }
 {
     let mut pixel = Pixel::CLEAR;
@@ -87,11 +87,11 @@ fn stacked_columns<'a, K: Film>(
     columns: &[Column],
     row: u32,
     f: &'a Filters<'a>,
-    p: Spot,
+    p: Position,
 ) -> Pixel
     requires sheet { k < length s.now.sheets }
-    requires few { length columns.now ≤ 1024 }
-    requires room { HasRoom (room_for depth below) p }
+    requires few { length columns.now < 2 ^ 32 }
+    requires room { CanMove (room_for depth below) p }
     ensures { result ≡ stack_of (λ t. value_within s.now (pictures_in drawings.now) depth k below t row (dropped_of f.now) p) (terminals_by None columns.now) }
 {
     let mut pixel = Pixel::CLEAR;
@@ -127,10 +127,10 @@ fn value_at<'a, K: Film>(
     n: Ref,
     row: u32,
     f: &'a Filters<'a>,
-    p: Spot,
+    p: Position,
 ) -> Pixel
     requires sheet { k < length s.now.sheets }
-    requires room { HasRoom (room_for depth below) p }
+    requires room { CanMove (room_for depth below) p }
     ensures { result ≡ value_within s.now (pictures_in drawings.now) depth k below n row (dropped_of f.now) p }
 {
     if below == 0 {
@@ -152,10 +152,10 @@ fn column_at<'a, K: Film>(
     c: u32,
     row: u32,
     f: &'a Filters<'a>,
-    p: Spot,
+    p: Position,
 ) -> Pixel
     requires sheet { k < length s.now.sheets }
-    requires room { HasRoom (sheet_reach * depth + peg_reach) p }
+    requires room { CanMove (sheet_reach * depth + peg_reach) p }
     ensures { result ≡ column_within s.now (pictures_in drawings.now) depth k c row (dropped_of f.now) p }
 {
     let moved = p.less(s.place(k, peg_of(s, k, c), row));
@@ -202,10 +202,10 @@ fn node_at<'a, K: Film>(
     n: u32,
     row: u32,
     f: &'a Filters<'a>,
-    p: Spot,
+    p: Position,
 ) -> Pixel
     requires sheet { k < length s.now.sheets }
-    requires room { HasRoom (room_for depth below + blur_reach) p }
+    requires room { CanMove (room_for depth below + blur_reach) p }
     ensures { result ≡ node_within s.now (pictures_in drawings.now) depth k below n row (dropped_of f.now) p }
 {
     match node_of(s, k, n) {
@@ -246,11 +246,11 @@ fn blurred_at<'a, K: Film>(
     radius: u32,
     row: u32,
     f: &'a Filters<'a>,
-    p: Spot,
+    p: Position,
 ) -> Pixel
     requires sheet { k < length s.now.sheets }
-    requires radius { radius ≤ 16 }
-    requires room { HasRoom (room_for depth below + blur_reach) p }
+    requires radius { radius ≤ blur_reach }
+    requires room { CanMove (room_for depth below + blur_reach) p }
     ensures { result ≡ blurred radius (value_within s.now (pictures_in drawings.now) depth k below input row (dropped_of f.now)) p }
 {
     let side = 2 * radius + 1;
@@ -275,18 +275,18 @@ fn line_sums<'a, K: Film>(
     j: u32,
     row: u32,
     f: &'a Filters<'a>,
-    p: Spot,
+    p: Position,
 ) -> Sums
     requires sheet { k < length s.now.sheets }
-    requires radius { radius ≤ 16 }
+    requires radius { radius ≤ blur_reach }
     requires line { j ≤ 2 * radius }
-    requires room { HasRoom (room_for depth below + blur_reach) p }
+    requires room { CanMove (room_for depth below + blur_reach) p }
     ensures value { result ≡ sums_at (value_within s.now (pictures_in drawings.now) depth k below input row (dropped_of f.now)) p (line_of radius j (2 * radius + 1)) }
     ensures sums { AreSums (255 * (2 * radius + 1)) result }
 {
     let mut sums = Sums::NONE;
     for i in 0..2 * radius + 1 {
-        let at = p.plus(Spot::offset(i, j, radius));
+        let at = p.plus(Position::offset(i, j, radius));
         let pixel = value_at(s, drawings, depth, k, below, input, row, f, at);
         sums = sums.plus(Sums::of(pixel));
     }

@@ -1,48 +1,61 @@
 -- One step of the gathering of drawings
-use Rattle.std.proofs.Common.{◌≡◌, ◌<◌, ℕ, suc, cond, Result, Ok, Err, List, [], ◌∷◌, ◌++◌, length, drop, get_or, All, Contains, OnOk, sym, ap, ◌∙◌, subst}
+use Rattle.std.proofs.Common.{◌≡◌, ◌<◌, ℕ, suc, cond, Result, Ok, Err, List, [], ◌∷◌, ◌++◌, length, drop, get_or, All, Contains, OnOk, append_assoc, append-nil, sym, ap, ◌∙◌, subst}
 use Rattle.std.proofs.Math.Seq.{drop-cons, drop-length}
-use Rattle.std.proofs.lemmas.List.Elements.{All-push}
+use Rattle.std.proofs.lemmas.Bool.{cond_both}
+use Rattle.std.proofs.lemmas.List.Elements.{All-push, Contains-append_left}
 use Rattle.xs_scene.specs.declared.node.Ref.{Ref}
 use Rattle.xs_scene.specs.Records.{SceneRecord}
 use Rattle.xs_meaning.specs.Expressions.{Staying, Both, First, Second, Neither}
 use Rattle.xs_meaning.specs.Palettes.{is_listed}
-use Rattle.xs_meaning.proofs.Lists.{by_test}
 use Rattle.xs_check.specs.Good.{files_of}
 use Rattle.xs_needs.specs.declared.found.Found.{Found}
 use Rattle.xs_needs.specs.declared.found.Gathered.{Gathered}
 use Rattle.xs_needs.specs.Found.{AreWhole, IsSound}
-use Rattle.xs_schematic.specs.Once.{with_one, with_each}
+use Rattle.xs_schematic.specs.Once.{fresh, with_one, with_each}
 use Rattle.xs_needs.specs.Rules.{drawings_over}
 use Rattle.xs_needs.specs.Shown.{Showing, drawings_in, showing_staying, first_stays, second_stays}
-use Rattle.xs_schematic.proofs.OnceLemmas.{with_each-nil, with_each-one, with_each-append, with_each-keeps}
 
 -- what follows from two facts that hold where a call succeeds holds there
 pub OnOk-both : {A E : Type 0} (r : Result A E) (P Q R : Type 0) → (P → Q → R) → OnOk r P → OnOk r Q → OnOk r R
 OnOk-both (Ok a) P Q R leads first second = leads first second
 OnOk-both (Err e) P Q R leads first second = tt
 
+-- the law of two lists that are gone through one after the other
+abbrev pub OneAfterAnother : Type 0
+OneAfterAnother = (known xs ys : List ℕ) → fresh known (xs ++ ys) ≡ fresh known xs ++ fresh (known ++ fresh known xs) ys
+
+pub with_both :
+    OneAfterAnother → (known xs ys : List ℕ) → with_each known (xs ++ ys) ≡ with_each (with_each known xs) ys
+with_both after known xs ys =
+    ap (λ l. known ++ l) (after known xs ys)
+    ∙ sym (append_assoc known (fresh known xs) (fresh (known ++ fresh known xs) ys))
+
+pub with_none : (known : List ℕ) → with_each known [] ≡ known
+unfolding fresh
+with_none known = append-nil known
+
 -- a pair: first the drawings of the first input if it stays, then those of the second if that stays
 pub gathered-pair :
-    (known : List ℕ) (stays : Staying) (a b : Showing)
+    OneAfterAnother → (known : List ℕ) (stays : Staying) (a b : Showing)
     → with_each (with_each known (cond (first_stays stays) (drawings_in a) [])) (cond (second_stays stays) (drawings_in b) [])
     ≡ with_each known (drawings_in (showing_staying stays a b))
-gathered-pair known Both a b = sym (with_each-append known (drawings_in a) (drawings_in b))
-gathered-pair known First a b = with_each-nil (with_each known (drawings_in a))
-gathered-pair known Second a b = ap (λ l. with_each l (drawings_in b)) (with_each-nil known)
-gathered-pair known Neither a b = with_each-nil (with_each known [])
+gathered-pair after known Both a b = sym (with_both after known (drawings_in a) (drawings_in b))
+gathered-pair after known First a b = with_none (with_each known (drawings_in a))
+gathered-pair after known Second a b = ap (λ l. with_each l (drawings_in b)) (with_none known)
+gathered-pair after known Neither a b = with_none (with_each known [])
 
 -- columns and nodes that lie over one another, from the last on
 pub over-start :
     (known : List ℕ) (E : Ref → Showing) (ts : List Ref) → known ≡ with_each known (drawings_over E (drop (length ts) ts))
 over-start known E ts =
-    sym (with_each-nil known) ∙ ap (λ l. with_each known (drawings_over E l)) (sym (drop-length ts))
+    sym (with_none known) ∙ ap (λ l. with_each known (drawings_over E l)) (sym (drop-length ts))
 
 pub over-step :
-    (known : List ℕ) (E : Ref → Showing) (ts : List Ref) (i above : ℕ) (d : Ref) → above ≡ suc i → i < length ts
+    OneAfterAnother → (known : List ℕ) (E : Ref → Showing) (ts : List Ref) (i above : ℕ) (d : Ref) → above ≡ suc i → i < length ts
     → with_each (with_each known (drawings_over E (drop above ts))) (drawings_in (E (get_or ts i d)))
     ≡ with_each known (drawings_over E (drop i ts))
-over-step known E ts i above d next lt =
-    sym (with_each-append known (drawings_over E (drop above ts)) (drawings_in (E (get_or ts i d))))
+over-step after known E ts i above d next lt =
+    sym (with_both after known (drawings_over E (drop above ts)) (drawings_in (E (get_or ts i d))))
     ∙ ap (λ m. with_each known (drawings_over E (drop m ts) ++ drawings_in (E (get_or ts i d)))) next
     ∙ sym (ap (λ us. with_each known (drawings_over E us)) (drop-cons ts i d lt))
 
@@ -73,10 +86,11 @@ sound-add s found g d sound there added same =
           (λ i p lt j e below. keeps _ (sound.whole i p lt j e below)));
       below =
           subst (All P) (sym added)
-          (by_test (All P) (is_listed old d) old (old ++ d ∷ []) (λ listed. sound.below) (λ new. All-push P old d sound.below there));
+          (cond_both (is_listed old d) old (old ++ d ∷ []) (All P) (λ listed. sound.below) (λ new. All-push P old d sound.below there));
     }
   where
     keeps : (x : ℕ) → Contains found.gathered.drawings.keys x → Contains (with_one found.gathered.drawings.keys d) x
     keeps x at =
-        subst (λ (l : List ℕ). Contains l x) (with_each-one found.gathered.drawings.keys d)
-        (with_each-keeps found.gathered.drawings.keys (d ∷ []) x at)
+        let old = found.gathered.drawings.keys in
+        cond_both (is_listed old d) old (old ++ d ∷ []) (λ (l : List ℕ). Contains l x)
+        (λ listed. at) (λ new. Contains-append_left old (d ∷ []) x at)

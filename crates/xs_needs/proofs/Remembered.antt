@@ -2,13 +2,14 @@
 use Rattle.std.proofs.Common.{◌≡◌, ℕ, true, false, Bool, cond, ◌&&◌, ◌||◌, eqb, Option, Some, None, IfSome, IsSome, is_some, List, [], ◌∷◌, ◌++◌, All, Contains, refl, sym, ap, ◌∙◌, subst}
 use Rattle.std.specs.List.{list_any}
 use Rattle.std.specs.Map.{lookup}
-use Rattle.std.proofs.lemmas.Bool.{eqb-true, eq-eqb, and_from}
+use Rattle.std.proofs.Math.Bool.{or-true}
+use Rattle.std.proofs.lemmas.Bool.{eqb-true, eq-eqb, and_from, and_parts, cond_both}
 use Rattle.std.proofs.lemmas.List.Elements.{All-head, All-tail, All-cons, All-push, All-contains}
+use Rattle.std.proofs.lemmas.List.Folds.{list_any-append}
 use Rattle.std.proofs.lemmas.Map.Views.{Contains-from_any, IfSome-lookup}
 use Rattle.indexmap.specs.IndexMap.{insert_entry}
 use Rattle.indexmap.specs.IndexSet.{insert_key}
 use Rattle.xs_scene.specs.Records.{SceneRecord}
-use Rattle.xs_meaning.proofs.Lists.{both_true, by_test}
 use Rattle.xs_needs.specs.declared.spot.At.{At}
 use Rattle.xs_needs.specs.declared.spot.At.TheVariants.{Row, Column, Node}
 use Rattle.xs_needs.specs.declared.spot.Spot.{Spot}
@@ -30,8 +31,8 @@ at_exact (Node c) (Node d) same = ap Node (eqb-true c d same)
 
 exact : (x y : Spot) → same_spot x y ≡ true → x ≡ y
 exact x y same =
-    let first = both_true (eqb x.sheet y.sheet) ((at_equality.eq-value).it x.at y.at && eqb x.row y.row) same in
-    let rest = both_true ((at_equality.eq-value).it x.at y.at) (eqb x.row y.row) first.1 in
+    let first = and_parts (eqb x.sheet y.sheet) ((at_equality.eq-value).it x.at y.at && eqb x.row y.row) same in
+    let rest = and_parts ((at_equality.eq-value).it x.at y.at) (eqb x.row y.row) first.1 in
     let sheet : x.sheet ≡ y.sheet = eqb-true x.sheet y.sheet first.0 in
     let at : x.at ≡ y.at = at_exact x.at y.at rest.0 in
     let row : x.row ≡ y.row = eqb-true x.row y.row rest.1 in
@@ -54,7 +55,7 @@ right-insert :
 right-insert s [] p v all here = All-cons (λ e. e.1 ≡ is_clear_at s e.0) (p, v) [] here all
 right-insert s (e ∷ es) p v all here =
     let P : Spot × Bool → Type 0 = λ e. e.1 ≡ is_clear_at s e.0 in
-    by_test (All P) (same_spot p e.0) ((e.0, v) ∷ es) (e ∷ insert_entry same_spot es p v)
+    cond_both (same_spot p e.0) ((e.0, v) ∷ es) (e ∷ insert_entry same_spot es p v) (All P)
     (λ passes. All-cons P (e.0, v) es (subst (λ (q : Spot). v ≡ is_clear_at s q) (exact p e.0 passes) here) (All-tail P e es all))
     (λ fails. All-cons P e (insert_entry same_spot es p v) (All-head P e es all) (right-insert s es p v (All-tail P e es all) here))
 
@@ -76,7 +77,7 @@ right-found s es p v all is =
 lookup-insert : (es : List (Spot × Bool)) (p : Spot) (v : Bool) → IsSome (lookup (same_spot p) (insert_entry same_spot es p v))
 lookup-insert [] p v = ap (λ b. is_some (cond b (Some v) None)) (same p)
 lookup-insert (e ∷ es) p v =
-    by_test (λ (new : List (Spot × Bool)). IsSome (lookup (same_spot p) new)) (same_spot p e.0) ((e.0, v) ∷ es) (e ∷ insert_entry same_spot es p v)
+    cond_both (same_spot p e.0) ((e.0, v) ∷ es) (e ∷ insert_entry same_spot es p v) (λ (new : List (Spot × Bool)). IsSome (lookup (same_spot p) new))
     (λ passes. ap (λ b. is_some (cond b (Some v) (lookup (same_spot p) es))) passes)
     (λ fails. ap (λ b. is_some (cond b (Some e.1) (lookup (same_spot p) (insert_entry same_spot es p v)))) fails ∙ lookup-insert es p v)
 
@@ -93,7 +94,7 @@ pub whole-noted :
 whole-noted s drawings ps new p is all here =
     let P : Spot → Type 0 = λ p. All (Contains drawings) (drawings_at s p) in
     subst (All P) (sym is)
-    (by_test (All P) (list_any (same_spot p) ps) ps (ps ++ p ∷ []) (λ passes. all) (λ fails. All-push P ps p all here))
+    (cond_both (list_any (same_spot p) ps) ps (ps ++ p ∷ []) (All P) (λ passes. all) (λ fails. All-push P ps p all here))
 
 pub whole-found :
     (s : SceneRecord) (drawings : List ℕ) (ps : List Spot) (p : Spot) → AreWhole s drawings ps
@@ -105,13 +106,10 @@ whole-found s drawings ps p all passes =
 pub listed-noted : (ps new : List Spot) (p : Spot) → new ≡ insert_key same_spot ps p → list_any (same_spot p) new ≡ true
 listed-noted ps new p is =
     subst (λ (ps : List Spot). list_any (same_spot p) ps ≡ true) (sym is)
-    (by_test (λ (ps : List Spot). list_any (same_spot p) ps ≡ true) (list_any (same_spot p) ps) ps (ps ++ p ∷ []) (λ passes. passes)
+    (cond_both (list_any (same_spot p) ps) ps (ps ++ p ∷ []) (λ (ps : List Spot). list_any (same_spot p) ps ≡ true) (λ passes. passes)
     (λ fails. list_any-last ps))
   where
-    or-true : (b : Bool) → (b || true) ≡ true
-    or-true true = refl
-    or-true false = refl
-
     list_any-last : (ps : List Spot) → list_any (same_spot p) (ps ++ p ∷ []) ≡ true
-    list_any-last [] = ap (λ b. b || false) (same p)
-    list_any-last (q ∷ qs) = ap (λ b. same_spot p q || b) (list_any-last qs) ∙ or-true (same_spot p q)
+    list_any-last ps =
+        list_any-append (same_spot p) ps (p ∷ [])
+        ∙ ap (λ b. list_any (same_spot p) ps || (b || false)) (same p) ∙ or-true (list_any (same_spot p) ps)

@@ -1,6 +1,8 @@
 -- What is shown is told without offsets and dropped styles, and rule by rule
 use Rattle.std.proofs.Common.{◌≡◌, ℕ, ◌-◌, Bool, true, false, cond, ◌&&◌, ◌++◌, Option, Some, None, List, [], ◌∷◌, map, is_none, slice_get, refl, sym, ap, ap₂, ◌∙◌, append-nil, append_assoc}
 use Rattle.std.specs.List.{list_all}
+use Rattle.std.proofs.Math.Bool.{and-true}
+use Rattle.std.proofs.lemmas.Bool.{cond_both}
 use mathlib.Core.Path.{fun_ext}
 use Rattle.xs_pixel.specs.Channels.{Channels}
 use Rattle.xs_pixel.specs.declared.operation.Op.{Op}
@@ -21,7 +23,6 @@ use Rattle.xs_meaning.specs.Points.{Point, plus}
 use Rattle.xs_meaning.specs.Walk.{sheet_at, column_at, terminals_of, whole_row, whole_input, depth_of, composed_by, above_by, seen_by, column_by, node_by, listed_by}
 use Rattle.xs_meaning.proofs.Agree.{Agrees, row_walk-agrees, walk-agrees, meets-any}
 use Rattle.xs_meaning.proofs.Depth.{whole_input-column, whole_input-node, whole_row-row}
-use Rattle.xs_meaning.proofs.Lists.{by_test}
 use Rattle.xs_needs.specs.declared.spot.At.{At}
 use Rattle.xs_needs.specs.declared.spot.At.TheVariants.{Row, Column, Node as NodeAt}
 use Rattle.xs_needs.specs.declared.spot.Spot.{Spot}
@@ -85,7 +86,7 @@ showing-leaf_by :
     (c : Option ColoursRecord) (d row : ℕ) (f : Dropped) (at : Point) → showing_of (leaf_by c d row f at) ≡ Some (d ∷ [])
 showing-leaf_by None d row f at = refl
 showing-leaf_by (Some c) d row f at =
-    by_test (λ e. showing_of e ≡ Some (d ∷ [])) (is_as_written c row f) (Leaf d at) (Tinted d at (tint_at c row f))
+    cond_both (is_as_written c row f) (Leaf d at) (Tinted d at (tint_at c row f)) (λ e. showing_of e ≡ Some (d ∷ []))
     (λ passes. refl) (λ fails. refl)
 
 abbrev Shows : (Point → Expr) → Showing → Type 0
@@ -214,15 +215,11 @@ and_turned true false r = refl
 and_turned false true r = refl
 and_turned false false r = refl
 
-and_true : (b : Bool) → (b && true) ≡ b
-and_true true = refl
-and_true false = refl
-
 above-none :
     (levels : List LevelRecord) (E : Ref → Showing) (ts : List Ref) (was : Showing)
     → is_none (above_by (by_showing levels) was (map E ts)) ≡ (is_none was && list_all (λ t. is_none (E t)) ts)
 unfolding by_showing
-above-none levels E [] was = sym (and_true (is_none was))
+above-none levels E [] was = sym (and-true (is_none was))
 above-none levels E (t ∷ ts) was =
     let next = showing_staying (staying OverOp (is_none (E t)) (is_none was)) (E t) was in
     above-none levels E ts next

@@ -1,49 +1,22 @@
 -- Where every way through a scene ends, so do the ways from spot to spot
-use Rattle.std.proofs.Common.{◌≡◌, ◌≤◌, ◌+◌, ◌-◌, ◌*◌, ℕ, zero, suc, Option, Some, None, List, length, find, slice_get, All, IfSome, sym, subst, ⊎_elim, arith}
-use Rattle.std.specs.Option.{option_map_or}
-use Rattle.std.proofs.lemmas.Bool.{cases_lt}
+use Rattle.std.proofs.Common.{◌≡◌, ◌≤◌, ◌+◌, ◌-◌, ◌*◌, ℕ, zero, suc, Option, Some, None, List, length, slice_get, sym, subst, ⊎_elim, arith}
+use Rattle.std.proofs.lemmas.Bool.{cases_lt, cond_both}
 use Rattle.std.proofs.lemmas.Option.{slice_get_past}
-use Rattle.xs_scene.specs.declared.column.Shown.{Shown}
-use Rattle.xs_scene.specs.declared.column.Shown.TheVariants.{Drawing as ShowsDrawing, Sheet}
 use Rattle.xs_scene.specs.declared.seen.Seen.{Seen}
 use Rattle.xs_scene.specs.declared.seen.Seen.TheVariants.{Empty, Drawing as SeenDrawing, Row as SeenRow}
 use Rattle.xs_scene.specs.declared.node.Ref.{Ref}
 use Rattle.xs_scene.specs.declared.node.Ref.TheVariants.{Column as ToColumn, Node as ToNode}
 use Rattle.xs_scene.specs.declared.node.Node.{Node}
 use Rattle.xs_scene.specs.declared.node.Node.TheVariants.{Pair as PairNode, Card, Shuffle, Blur, Keep, Delete}
-use Rattle.xs_scene.specs.Records.{SceneRecord, ColumnRecord, ExposureRecord, LevelRecord}
-use Rattle.xs_meaning.specs.Cells.{cell_at, covers, shown_after}
-use Rattle.xs_meaning.specs.Ends.{AllEnd, InputsHave, NodesEnd, ShownHas, SheetsEnd}
+use Rattle.xs_scene.specs.Records.{SceneRecord, SheetRecord, LevelRecord}
+use Rattle.xs_meaning.specs.Cells.{cell_at}
+use Rattle.xs_meaning.specs.Ends.{AllEnd, InputsHave, NodesEnd, SeenHas, SheetsEnd}
 use Rattle.xs_meaning.specs.Palettes.{is_clear_pixel, pixel_of}
-use Rattle.xs_meaning.specs.Walk.{sheet_at, column_at, no_column}
-use Rattle.xs_meaning.proofs.Depth.{find-has}
-use Rattle.xs_meaning.proofs.Lists.{by_test, All-slice_index_or}
+use Rattle.xs_meaning.specs.Walk.{sheet_at, column_at}
 use Rattle.xs_needs.specs.declared.spot.At.TheVariants.{Row, Column, Node as NodeAt}
 use Rattle.xs_needs.specs.declared.spot.Spot.{Spot}
 use Rattle.xs_needs.specs.declared.rule.Rule.TheVariants.{Clear, Pixel}
 use Rattle.xs_needs.specs.Rules.{spot, input_spot, rule_of, rule_of_seen, rule_of_listed, rule_of_node, LeadsTo, WaysEnd}
-
--- P holds of the sheet whose row is seen
-abbrev SeenHas : (ℕ → Type 0) → Seen → Type 0
-SeenHas P Empty = Unit {0}
-SeenHas P (SeenDrawing level index) = Unit {0}
-SeenHas P (SeenRow sheet row) = P sheet
-
-cell_at-has :
-    (P : ℕ → Type 0) (column : ColumnRecord) (row : ℕ)
-    → All (λ e. ShownHas P e.shown) column.cells → SeenHas P (cell_at column row)
-unfolding cell_at
-cell_at-has P column row all =
-    found (find (covers row) column.cells) (find-has (λ e. ShownHas P e.shown) (covers row) column.cells all)
-  where
-    shows : (rows : ℕ) (shown : Shown) → ShownHas P shown → SeenHas P (shown_after rows shown)
-    shows rows (ShowsDrawing level index) has = tt
-    shows rows (Sheet sheet start) has = has
-
-    found : (e : Option ExposureRecord) → IfSome e (λ e. ShownHas P e.shown)
-        → SeenHas P (option_map_or (λ e. shown_after (row - e.from) e.shown) e Empty)
-    found None has = tt
-    found (Some e) has = shows (row - e.from) e.shown has
 
 seen-leads :
     (P : Spot → Type 0) (Q : ℕ → Type 0) (levels : List LevelRecord) (k row : ℕ)
@@ -65,7 +38,7 @@ node-leads :
 node-leads P Q k row leads None has = tt
 node-leads P Q k row leads (Some (PairNode op first second)) has = (leads first row has.0, leads second row has.1)
 node-leads P Q k row leads (Some (Card style)) has =
-    by_test (LeadsTo P k row) (is_clear_pixel (pixel_of style)) Clear Pixel (λ passes. tt) (λ fails. tt)
+    cond_both (is_clear_pixel (pixel_of style)) Clear Pixel (LeadsTo P k row) (λ passes. tt) (λ fails. tt)
 node-leads P Q k row leads (Some (Shuffle input list)) has =
     listed-leads P k row input (λ r. leads input r has) (slice_get list (row - 1))
 node-leads P Q k row leads (Some (Blur input radius)) has = leads input row has
@@ -76,18 +49,23 @@ node-leads P Q k row leads (Some (Delete input styles)) has = leads input row ha
 abbrev RowsEnd : SceneRecord → ℕ → ℕ → Type 0
 RowsEnd s least j = (inner n : ℕ) → least ≤ n → WaysEnd s n (spot j Row inner)
 
+-- the law that ways from a seen sheet are shorter
+abbrev pub SeenEndSooner : Type 0
+SeenEndSooner =
+    (sheets : List SheetRecord) (d k c row : ℕ) → SheetsEnd sheets (d + 1) k
+    → SeenHas (SheetsEnd sheets d) (cell_at (column_at (sheet_at sheets k) c) row)
+
 column-ends :
-    (s : SceneRecord) (d least k c : ℕ) → ((j : ℕ) → SheetsEnd s.sheets d j → RowsEnd s least j)
+    SeenEndSooner → (s : SceneRecord) (d least k c : ℕ) → ((j : ℕ) → SheetsEnd s.sheets d j → RowsEnd s least j)
     → SheetsEnd s.sheets (suc d) k
     → (row n : ℕ) → least + 1 ≤ n → WaysEnd s n (spot k (Column c) row)
-unfolding WaysEnd SheetsEnd rule_of
-column-ends s d least k c below ends row zero le = absurd (omega arith)
-column-ends s d least k c below ends row (suc n) le =
+unfolding WaysEnd rule_of
+column-ends sooner s d least k c below ends row zero le = absurd (omega arith)
+column-ends sooner s d least k c below ends row (suc n) le =
     seen-leads (WaysEnd s n) (SheetsEnd s.sheets d) s.levels k row (λ j inner has. below j has inner n (omega arith))
     (cell_at (column_at (sheet_at s.sheets k) c) row)
-    (cell_at-has (SheetsEnd s.sheets d) (column_at (sheet_at s.sheets k) c) row
-    (All-slice_index_or (λ column. All (λ e. ShownHas (SheetsEnd s.sheets d) e.shown) column.cells)
-    (sheet_at s.sheets k).columns c no_column (λ i e lt. absurd (omega arith)) ends))
+    (sooner s.sheets d k c row
+    (subst (λ (m : ℕ). SheetsEnd s.sheets m k) (let e : suc d ≡ d + 1 = omega arith in e) ends))
 
 input-ends :
     (s : SceneRecord) (least k : ℕ)
@@ -126,22 +104,22 @@ terminal-ends s ends least k columns (ToNode i) row n le =
     (cases_lt i (length (sheet_at s.sheets k).nodes))
 
 rows-end :
-    (s : SceneRecord) → AllEnd s.sheets → ((k : ℕ) → length (sheet_at s.sheets k).nodes ≤ 256)
+    SeenEndSooner → (s : SceneRecord) → AllEnd s.sheets → ((k : ℕ) → length (sheet_at s.sheets k).nodes ≤ 256)
     → (d k : ℕ) → SheetsEnd s.sheets d k → RowsEnd s (d * 258) k
 unfolding WaysEnd SheetsEnd rule_of
-rows-end s ends few zero k sheets inner n le = absurd sheets
-rows-end s ends few (suc d) k sheets inner zero le = absurd (omega arith)
-rows-end s ends few (suc d) k sheets inner (suc n) le =
+rows-end sooner s ends few zero k sheets inner n le = absurd sheets
+rows-end sooner s ends few (suc d) k sheets inner zero le = absurd (omega arith)
+rows-end sooner s ends few (suc d) k sheets inner (suc n) le =
     λ i t lt.
     terminal-ends s ends (d * 258) k
-    (λ c row n le. column-ends s d (d * 258) k c (rows-end s ends few d) sheets row n le)
+    (λ c row n le. column-ends sooner s d (d * 258) k c (rows-end sooner s ends few d) sheets row n le)
     _ inner n (omega (arith, few k))
 
 -- 16 nested sheets of at most 256 nodes
 pub row-ends :
-    (s : SceneRecord) → AllEnd s.sheets → ((k : ℕ) → length (sheet_at s.sheets k).nodes ≤ 256)
+    SeenEndSooner → (s : SceneRecord) → AllEnd s.sheets → ((k : ℕ) → length (sheet_at s.sheets k).nodes ≤ 256)
     → (k row : ℕ) → WaysEnd s 4128 (spot k Row row)
-row-ends s ends few k row = rows-end s ends few 16 k (ends.sheets_end k) row 4128 (omega arith)
+row-ends sooner s ends few k row = rows-end sooner s ends few 16 k (ends.sheets_end k) row 4128 (omega arith)
 
 -- ---- one step
 

@@ -104,6 +104,8 @@ impl Gathered {
 /// All that is remembered.
 #[derive(Drop)]
 pub struct Found {
+    /// The spots that are clear or not.
     pub known: Known,
+    /// The drawings so far.
     pub gathered: Gathered,
 }

@@ -19,6 +19,7 @@ use std::alloc::Global;
 use xs_check::GoodScene;
 use xs_pixel::{Memory, Op};
 use xs_scene::Ref;
+use xs_schematic::laws::each_number_is_taken_once;
 
 /// Gathers the drawings of a spot, and remembers that they are gathered. The ways from it have at most
 /// `left` spots.
@@ -39,6 +40,7 @@ pub fn gather(
     ensures sound { OnOk result (IsSound s.now found.new) }
     ensures noted { OnOk result (IsTrue (contains same_spot found.new.gathered.whole spot)) }
 {
+    each_number_is_taken_once();
     if found.gathered.has_all_of(spot) {
         return Ok(());
     }
@@ -69,7 +71,10 @@ fn gather_by(
 {
     match rule {
         Rule::Clear | Rule::Pixel => Ok(()),
-        Rule::Drawing(drawing) => found.gathered.add(*drawing),
+        Rule::Drawing(drawing) => {
+            each_number_is_taken_once();
+            found.gathered.add(*drawing)
+        }
         Rule::Same(next) => gather(alloc, s, left - 1, *next, found),
         Rule::Pair(op, first, second) => {
             gather_pair(alloc, s, left - 1, *op, (*first, *second), found)
@@ -100,6 +105,7 @@ fn gather_pair(
         (shown s.now inputs.0) (shown s.now inputs.1)))) }
     ensures sound { OnOk result (IsSound s.now found.new) }
 {
+    each_number_is_taken_once();
     let (first, second) = inputs;
     let first_clear = is_clear(alloc, s, left, first, &mut found.known)?;
     let second_clear = is_clear(alloc, s, left, second, &mut found.known)?;
@@ -153,6 +159,7 @@ fn gather_over(
         (drawings_over (λ t. shown s.now (input_spot spot.sheet t spot.row)) terminals.now)) }
     ensures sound { OnOk result (IsSound s.now found.new) }
 {
+    each_number_is_taken_once();
     let mut below = terminals.len();
     while below > 0 {
         below -= 1;

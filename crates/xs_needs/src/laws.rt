@@ -11,6 +11,7 @@ ghost use Rattle.xs_needs.specs.declared.spot.Spot.{Spot};
 ghost use Rattle.xs_scene.specs.Records.{SceneRecord};
 
 use crate::spot::At;
+use xs_meaning::rules::seen_sheets_end_sooner;
 
 /// Whether a row is clear and what drawings it has know neither the offset nor the dropped styles, and
 /// are told rule by rule. The ways from spot to spot end.
@@ -24,4 +25,6 @@ pub fn spots_tell_what_is_shown()
     ensures ends { (s : SceneRecord) → AllEnd s.sheets
         → ((k : ℕ) → length (sheet_at s.sheets k).nodes ≤ 256)
         → (k row : ℕ) → WaysEnd s 4128 (spot k At.Row row) }
-{}
+{
+    seen_sheets_end_sooner();
+}

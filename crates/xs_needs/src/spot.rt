@@ -6,16 +6,22 @@ use xs_scene::Ref;
 /// Where in a sheet.
 #[derive(Clone, Copy, Debug, PartialEq, Eq, Hash)]
 pub enum At {
+    /// The whole row.
     Row,
+    /// A column, by its number.
     Column(u32),
+    /// A node, by its number.
     Node(u32),
 }
 
 /// What is asked for the drawings that it needs: a row of a sheet, or a column or node at a row.
 #[derive(Clone, Copy, Debug, PartialEq, Eq, Hash)]
 pub struct Spot {
+    /// The number of the sheet.
     pub sheet: u32,
+    /// Where in the sheet.
     pub at: At,
+    /// The row of the sheet.
     pub row: u32,
 }
 

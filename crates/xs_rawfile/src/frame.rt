@@ -1,22 +1,30 @@
-ghost use Rattle.std.specs.Prelude.{◌≡◌, IfOk};
-ghost use Rattle.xs_rawfile.specs.Frame.{frame_of};
+ghost use Rattle.std.specs.Prelude.{◌≡◌, ◌++◌, IfOk, OnOk};
+ghost use Rattle.xs_rawfile.specs.Frame.{frame_file_of, frame_header_of};
 
 use std::alloc::Global;
 use xs_pixel::Memory;
 use xs_raster::Raster;
 
-/// How many bytes of a frame come before its pixels.
-const HEADER: usize = 12;
+/// How many bytes of a frame file come before its pixels.
+pub const FRAME_HEADER: usize = 12;
 
 /// The bytes of the frame file with these pixels.
 pub fn frame_bytes(alloc: Global, r: &Raster) -> Result<Vec<u8>, Memory>
-    ensures { IfOk result (λ bytes. bytes.items ≡ frame_of r.now) }
+    ensures { IfOk result (λ bytes. bytes.items ≡ frame_file_of r.now) }
 {
     let rect = r.rect();
-    let mut bytes = Vec::with_capacity(alloc, HEADER + r.bytes().len())?;
-    bytes.extend_from_slice(b"XFR1")?;
-    bytes.extend_from_slice(&rect.w().to_le_bytes())?;
-    bytes.extend_from_slice(&rect.h().to_le_bytes())?;
+    let mut bytes = Vec::with_capacity(alloc, FRAME_HEADER + r.bytes().len())?;
+    push_frame_header(&mut bytes, rect.w(), rect.h())?;
     bytes.extend_from_slice(r.bytes())?;
     Ok(bytes)
+}
+
+/// Puts last what a frame file has before its pixels: the letters XFR1, the width and the height.
+pub fn push_frame_header(bytes: &mut Vec<u8>, w: u32, h: u32) -> Result<(), Memory>
+    ensures { OnOk result (bytes.new.items ≡ bytes.old.items ++ frame_header_of w h) }
+{
+    bytes.extend_from_slice(b"XFR1")?;
+    bytes.extend_from_slice(&w.to_le_bytes())?;
+    bytes.extend_from_slice(&h.to_le_bytes())?;
+    Ok(())
 }

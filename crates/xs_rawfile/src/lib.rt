@@ -13,7 +13,7 @@ mod shown;
 pub use drawing::{Drawing, RawKind};
 pub use drawings::{Drawings, drawings_cross_threads};
 pub use fault::{LevelCode, LevelFault};
-pub use frame::frame_bytes;
+pub use frame::{FRAME_HEADER, frame_bytes, push_frame_header};
 pub use level::{level_format, read_level, write_level};
 
 #[cfg(test)]

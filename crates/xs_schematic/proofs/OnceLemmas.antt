@@ -1,12 +1,12 @@
 -- Numbers that are taken once
-use Rattle.std.proofs.Common.{◌≡◌, ◌≢◌, ℕ, suc, Bool, true, false, ◌||◌, cond, eqb, get_or, List, [], ◌∷◌, ◌++◌, All, AllPairs, Contains, refl, sym, ap, ◌∙◌, subst, append_assoc, append-nil, ⊎_elim, arith}
-use Rattle.std.proofs.lemmas.Bool.{eqb-true, eq-eqb, both_ways}
-use Rattle.std.proofs.lemmas.List.{get_or_default, append_cancel_left}
-use Rattle.std.proofs.lemmas.List.Elements.{All-head, All-tail, All-cons, All-push, Contains-push, Contains-append_left, Contains-append_right, Contains-append_cases, Contains-push_cases}
-use Rattle.std.proofs.lemmas.List.Folds.{list_any_at}
+use Rattle.std.proofs.Common.{◌≡◌, ◌≢◌, ℕ, suc, Bool, true, false, ◌||◌, cond, eqb, get_or, List, [], ◌∷◌, ◌++◌, All, AllPairs, Contains, refl, sym, ap, ap₂, ◌∙◌, subst, append_assoc, append-nil, ⊎_elim, arith}
+use Rattle.std.specs.Cmp.{both_ways as same_tests}
+use Rattle.std.proofs.lemmas.Bool.{eqb-true, eq-eqb, both_ways, cond_both}
+use Rattle.std.proofs.lemmas.List.{get_or_default}
+use Rattle.std.proofs.lemmas.List.Elements.{All-contains, All-head, All-tail, All-cons, Contains-push, Contains-append_left, Contains-append_right, Contains-append_cases, Contains-push_cases}
+use Rattle.std.proofs.lemmas.List.Folds.{list_any_at, list_any-append}
 use Rattle.std.proofs.lemmas.List.Quantifiers.{all_pairs_push}
 use Rattle.xs_meaning.specs.Palettes.{is_listed}
-use Rattle.xs_meaning.proofs.Lists.{by_test}
 use Rattle.xs_schematic.specs.Once.{fresh, each_once, with_one, with_each}
 
 contains_first :
@@ -26,117 +26,124 @@ listed-Contains known d at =
 pub unlisted-Contains : (known : List ℕ) (d : ℕ) → is_listed known d ≡ false → Contains known d → ⊥
 unlisted-Contains known d fails at = both_ways (is_listed known d) fails (listed-Contains known d at)
 
+-- ---- one number after another
+
+-- a list's next number is taken if it is new
+fresh-cases :
+    (P : List ℕ → Type 0) (known : List ℕ) (x : ℕ) (xs : List ℕ)
+    → (is_listed known x ≡ true → P (fresh known xs))
+    → (is_listed known x ≡ false → P (x ∷ fresh (known ++ x ∷ []) xs))
+    → P (fresh known (x ∷ xs))
+unfolding fresh
+fresh-cases P known x xs listed new =
+    cond_both (is_listed known x) (fresh known xs) (x ∷ fresh (known ++ x ∷ []) xs) P listed new
+
 pub with_each-nil : (known : List ℕ) → with_each known [] ≡ known
-unfolding with_each
-with_each-nil known = refl
+unfolding fresh
+with_each-nil known = append-nil known
 
 pub with_each-one : (known : List ℕ) (d : ℕ) → with_each known (d ∷ []) ≡ with_one known d
-unfolding with_each
-with_each-one known d = refl
-
-pub with_each-append : (known xs ys : List ℕ) → with_each known (xs ++ ys) ≡ with_each (with_each known xs) ys
-unfolding with_each
-with_each-append known [] ys = refl
-with_each-append known (x ∷ xs) ys = with_each-append (with_one known x) xs ys
-
-pub with_each-fresh : (known xs : List ℕ) → with_each known xs ≡ known ++ fresh known xs
-unfolding with_each fresh
-with_each-fresh known [] = sym (append-nil known)
-with_each-fresh known (x ∷ xs) =
-    by_cases (is_listed known x) (with_each-fresh known xs)
-    (with_each-fresh (known ++ x ∷ []) xs ∙ append_assoc known (x ∷ []) (fresh (known ++ x ∷ []) xs))
+unfolding fresh
+with_each-one known d =
+    by_cases (is_listed known d)
   where
-    by_cases : (b : Bool)
-        → with_each known xs ≡ known ++ fresh known xs
-        → with_each (known ++ x ∷ []) xs ≡ known ++ (x ∷ fresh (known ++ x ∷ []) xs)
-        → with_each (cond b known (known ++ x ∷ [])) xs
-        ≡ known ++ cond b (fresh known xs) (x ∷ fresh (known ++ x ∷ []) xs)
-    by_cases true listed new = listed
-    by_cases false listed new = new
-
--- what is known stays known
-pub with_each-keeps : (known xs : List ℕ) (d : ℕ) → Contains known d → Contains (with_each known xs) d
-unfolding with_each
-with_each-keeps known [] d at = at
-with_each-keeps known (x ∷ xs) d at =
-    with_each-keeps (with_one known x) xs d
-    (by_test (λ (l : List ℕ). Contains l d) (is_listed known x) known (known ++ x ∷ [])
-    (λ listed. at) (λ new. Contains-append_left known (x ∷ []) d at))
-
-with_one-has : (known : List ℕ) (d : ℕ) → Contains (with_one known d) d
-with_one-has known d =
-    by_test (λ (l : List ℕ). Contains l d) (is_listed known d) known (known ++ d ∷ [])
-    (λ listed. Contains-listed known d listed) (λ new. Contains-push known d)
-
--- and each number of the list is known
-pub with_each-has : (known xs : List ℕ) → All (Contains (with_each known xs)) xs
-unfolding with_each
-with_each-has known [] = λ k d lt. absurd (omega arith)
-with_each-has known (x ∷ xs) =
-    All-cons (Contains (with_each (with_one known x) xs)) x xs
-    (with_each-keeps (with_one known x) xs x (with_one-has known x))
-    (with_each-has (with_one known x) xs)
-
-pub with_each-known : (known xs : List ℕ) → All (Contains known) xs → with_each known xs ≡ known
-unfolding with_each
-with_each-known known [] all = refl
-with_each-known known (x ∷ xs) all =
-    ap (λ b. with_each (cond b known (known ++ x ∷ [])) xs) (listed-Contains known x (All-head (Contains known) x xs all))
-    ∙ with_each-known known xs (All-tail (Contains known) x xs all)
-
--- what holds of the known numbers and of the list's holds of all
-pub with_each-All : (P : ℕ → Type 0) (known xs : List ℕ) → All P known → All P xs → All P (with_each known xs)
-unfolding with_each
-with_each-All P known [] all more = all
-with_each-All P known (x ∷ xs) all more =
-    with_each-All P (with_one known x) xs
-    (by_test (All P) (is_listed known x) known (known ++ x ∷ [])
-    (λ listed. all) (λ new. All-push P known x all (All-head P x xs more)))
-    (All-tail P x xs more)
-
--- no number stands twice
-with_each-once :
-    (known xs : List ℕ) → AllPairs (λ a b. a ≢ b) known → AllPairs (λ a b. a ≢ b) (with_each known xs)
-unfolding with_each
-with_each-once known [] once = once
-with_each-once known (x ∷ xs) once =
-    with_each-once (with_one known x) xs
-    (by_test (AllPairs (λ a b. a ≢ b)) (is_listed known x) known (known ++ x ∷ [])
-    (λ listed. once)
-    (λ new. all_pairs_push (λ a b. a ≢ b) known x once
-    (λ k d lt same. unlisted-Contains known x new (k, lt, get_or_default known k x d lt ∙ same))))
-
--- ---- the laws
+    by_cases : (b : Bool) → known ++ cond b [] (d ∷ []) ≡ cond b known (known ++ d ∷ [])
+    by_cases true = append-nil known
+    by_cases false = refl
 
 pub fresh-append :
     (known xs ys : List ℕ) → fresh known (xs ++ ys) ≡ fresh known xs ++ fresh (known ++ fresh known xs) ys
-fresh-append known xs ys =
-    append_cancel_left known (fresh known (xs ++ ys)) (fresh known xs ++ fresh (known ++ fresh known xs) ys)
-    (sym (with_each-fresh known (xs ++ ys)) ∙ with_each-append known xs ys
-    ∙ ap (λ l. with_each l ys) (with_each-fresh known xs)
-    ∙ with_each-fresh (known ++ fresh known xs) ys
-    ∙ append_assoc known (fresh known xs) (fresh (known ++ fresh known xs) ys))
+unfolding fresh
+fresh-append known [] ys = ap (λ l. fresh l ys) (sym (append-nil known))
+fresh-append known (x ∷ xs) ys =
+    by_cases (is_listed known x) (fresh-append known xs ys)
+    (fresh-append after xs ys ∙ ap (λ l. fresh after xs ++ fresh l ys) (append_assoc known (x ∷ []) (fresh after xs)))
+  where
+    after : List ℕ
+    after = known ++ x ∷ []
+
+    by_cases : (b : Bool)
+        → fresh known (xs ++ ys) ≡ fresh known xs ++ fresh (known ++ fresh known xs) ys
+        → fresh after (xs ++ ys) ≡ fresh after xs ++ fresh (known ++ x ∷ fresh after xs) ys
+        → cond b (fresh known (xs ++ ys)) (x ∷ fresh after (xs ++ ys))
+        ≡ cond b (fresh known xs) (x ∷ fresh after xs) ++ fresh (known ++ cond b (fresh known xs) (x ∷ fresh after xs)) ys
+    by_cases true listed new = listed
+    by_cases false listed new = ap (λ l. x ∷ l) new
+
+pub with_each-append : (known xs ys : List ℕ) → with_each known (xs ++ ys) ≡ with_each (with_each known xs) ys
+with_each-append known xs ys =
+    ap (λ l. known ++ l) (fresh-append known xs ys)
+    ∙ sym (append_assoc known (fresh known xs) (fresh (known ++ fresh known xs) ys))
 
 pub fresh-known : (known xs : List ℕ) → All (Contains known) xs → fresh known xs ≡ []
-fresh-known known xs all =
-    append_cancel_left known (fresh known xs) []
-    (sym (with_each-fresh known xs) ∙ with_each-known known xs all ∙ sym (append-nil known))
+unfolding fresh
+fresh-known known [] all = refl
+fresh-known known (x ∷ xs) all =
+    ap (λ b. cond b (fresh known xs) (x ∷ fresh (known ++ x ∷ []) xs))
+    (listed-Contains known x (All-head (Contains known) x xs all))
+    ∙ fresh-known known xs (All-tail (Contains known) x xs all)
+
+pub with_each-known : (known xs : List ℕ) → All (Contains known) xs → with_each known xs ≡ known
+with_each-known known xs all = ap (λ l. known ++ l) (fresh-known known xs all) ∙ append-nil known
 
 pub fresh-has : (known xs : List ℕ) → All (Contains (known ++ fresh known xs)) xs
-fresh-has known xs =
-    subst (λ (l : List ℕ). All (Contains l) xs) (with_each-fresh known xs) (with_each-has known xs)
+fresh-has known [] = λ k d lt. absurd (omega arith)
+fresh-has known (x ∷ xs) =
+    fresh-cases (λ l. All (Contains (known ++ l)) (x ∷ xs)) known x xs
+    (λ listed. with_all known (fresh known xs) (Contains-listed known x listed) (fresh-has known xs))
+    (λ new. subst (λ (l : List ℕ). All (Contains l) (x ∷ xs)) (append_assoc known (x ∷ []) (fresh (known ++ x ∷ []) xs))
+    (with_all (known ++ x ∷ []) (fresh (known ++ x ∷ []) xs) (Contains-push known x) (fresh-has (known ++ x ∷ []) xs)))
+  where
+    with_all : (front back : List ℕ) → Contains front x → All (Contains (front ++ back)) xs → All (Contains (front ++ back)) (x ∷ xs)
+    with_all front back first rest =
+        All-cons (Contains (front ++ back)) x xs (Contains-append_left front back x first) rest
 
 pub Contains-fresh : (known xs : List ℕ) (d : ℕ) → Contains (fresh known xs) d → Contains xs d
 unfolding fresh
 Contains-fresh known [] d = λ at. at
 Contains-fresh known (x ∷ xs) d =
-    by_test (λ (l : List ℕ). Contains l d → Contains (x ∷ xs) d) (is_listed known x)
-    (fresh known xs) (x ∷ fresh (known ++ x ∷ []) xs)
+    fresh-cases (λ l. Contains l d → Contains (x ∷ xs) d) known x xs
     (λ listed at. Contains-append_right (x ∷ []) xs d (Contains-fresh known xs d at))
     (λ new at.
     ⊎_elim (λ here. Contains-append_left (x ∷ []) xs d here)
     (λ later. Contains-append_right (x ∷ []) xs d (Contains-fresh (known ++ x ∷ []) xs d later))
     (Contains-append_cases (x ∷ []) (fresh (known ++ x ∷ []) xs) d at))
+
+-- only which numbers are known matters
+fresh-same :
+    (known other xs : List ℕ) → ((d : ℕ) → is_listed known d ≡ is_listed other d) → fresh known xs ≡ fresh other xs
+unfolding fresh
+fresh-same known other [] same = refl
+fresh-same known other (x ∷ xs) same =
+    ap (λ b. cond b (fresh known xs) (x ∷ fresh (known ++ x ∷ []) xs)) (same x)
+    ∙ ap₂ (λ l m. cond (is_listed other x) l (x ∷ m)) (fresh-same known other xs same)
+    (fresh-same (known ++ x ∷ []) (other ++ x ∷ []) xs
+    (λ d.
+    list_any-append (λ m. eqb m d) known (x ∷ []) ∙ ap (λ b. b || is_listed (x ∷ []) d) (same d)
+    ∙ sym (list_any-append (λ m. eqb m d) other (x ∷ []))))
+
+pub fresh-append_all : (known xs ys : List ℕ) → fresh known (xs ++ ys) ≡ fresh known xs ++ fresh (known ++ xs) ys
+fresh-append_all known xs ys =
+    fresh-append known xs ys
+    ∙ ap (λ l. fresh known xs ++ l)
+    (fresh-same (known ++ fresh known xs) (known ++ xs) ys
+    (λ d. same_tests (is_listed (known ++ fresh known xs) d) (is_listed (known ++ xs) d) (taken d) (all d)))
+  where
+    either : (front back other : List ℕ) (d : ℕ) → (Contains front d → Contains other d) → (Contains back d → Contains other d)
+        → is_listed (front ++ back) d ≡ true → is_listed other d ≡ true
+    either front back other d first second listed =
+        listed-Contains other d
+        (⊎_elim first second (Contains-append_cases front back d (Contains-listed (front ++ back) d listed)))
+
+    taken : (d : ℕ) → is_listed (known ++ fresh known xs) d ≡ true → is_listed (known ++ xs) d ≡ true
+    taken d =
+        either known (fresh known xs) (known ++ xs) d (Contains-append_left known xs d)
+        (λ at. Contains-append_right known xs d (Contains-fresh known xs d at))
+
+    all : (d : ℕ) → is_listed (known ++ xs) d ≡ true → is_listed (known ++ fresh known xs) d ≡ true
+    all d =
+        either known xs (known ++ fresh known xs) d (Contains-append_left known (fresh known xs) d)
+        (λ at. All-contains (Contains (known ++ fresh known xs)) xs d (fresh-has known xs) at)
 
 choose :
     (b : Bool) (u v u' v' : List ℕ) → (b ≡ true → u ≡ u') → (b ≡ false → v ≡ v') → cond b u v ≡ cond b u' v'
@@ -164,9 +171,7 @@ fresh-fresh known other [] leads = refl
 fresh-fresh known other (x ∷ xs) leads =
     let after = known ++ x ∷ [] in
     let other_after = other ++ x ∷ [] in
-    by_test
-    (λ (l : List ℕ). fresh known l ≡ cond (is_listed known x) (fresh known xs) (x ∷ fresh after xs))
-    (is_listed other x) (fresh other xs) (x ∷ fresh other_after xs)
+    fresh-cases (λ l. fresh known l ≡ cond (is_listed known x) (fresh known xs) (x ∷ fresh after xs)) other x xs
     (λ listed.
     fresh-fresh known other xs leads
     ∙ sym (ap (λ b. cond b (fresh known xs) (x ∷ fresh after xs)) (leads x listed)))
@@ -182,7 +187,18 @@ fresh-fresh known other (x ∷ xs) leads =
 pub fresh-each_once : (known xs : List ℕ) → fresh known (each_once xs) ≡ fresh known xs
 fresh-each_once known xs = fresh-fresh known [] xs (λ d listed. cc)
 
+-- no number stands twice
+with_each-once :
+    (known xs : List ℕ) → AllPairs (λ a b. a ≢ b) known → AllPairs (λ a b. a ≢ b) (with_each known xs)
+with_each-once known [] once = subst (AllPairs (λ a b. a ≢ b)) (sym (with_each-nil known)) once
+with_each-once known (x ∷ xs) once =
+    fresh-cases (λ l. AllPairs (λ a b. a ≢ b) (known ++ l)) known x xs
+    (λ listed. with_each-once known xs once)
+    (λ new.
+    subst (AllPairs (λ a b. a ≢ b)) (append_assoc known (x ∷ []) (fresh (known ++ x ∷ []) xs))
+    (with_each-once (known ++ x ∷ []) xs
+    (all_pairs_push (λ a b. a ≢ b) known x once
+    (λ k d lt same. unlisted-Contains known x new (k, lt, get_or_default known k x d lt ∙ same)))))
+
 pub each_once-once : (xs : List ℕ) → AllPairs (λ a b. a ≢ b) (each_once xs)
-each_once-once xs =
-    subst (AllPairs (λ a b. a ≢ b)) (with_each-fresh [] xs)
-    (with_each-once [] xs (λ i j d lt long. absurd (omega arith)))
+each_once-once xs = with_each-once [] xs (λ i j d lt long. absurd (omega arith))

@@ -1,6 +1,8 @@
 -- The order of visits has every node once, and each after its inputs
-use Rattle.std.proofs.Common.{◌≡◌, ℕ, zero, suc, true, false, cond, ◌+◌, ◌-◌, ◌<◌, ◌≤◌, length, get_or, slice_get, zero-add, map-id, Option, Some, None, List, [], ◌∷◌, ◌++◌, All, Contains, refl, sym, ap, ◌∙◌, subst, arith}
+use Rattle.std.proofs.Common.{◌≡◌, ℕ, zero, suc, true, false, cond, ◌+◌, ◌-◌, ◌<◌, ◌≤◌, length, get_or, slice_get, zero-add, map-id, Option, Some, None, List, [], ◌∷◌, ◌++◌, Contains, refl, sym, ap, ◌∙◌, subst, arith}
+use Rattle.std.specs.Option.{option_map_or}
 use Rattle.std.specs.List.{range_with_len, AllByRecursion as Each}
+use Rattle.std.proofs.lemmas.Bool.{cond_both}
 use Rattle.std.proofs.lemmas.List.Elements.{All-from_recursion, recursion_from_All}
 use Rattle.std.proofs.lemmas.List.FromFn.{length-range_with_len, get_or-range_with_len, map-range_with_len_more}
 use Rattle.xs_scene.specs.declared.node.Ref.{Ref}
@@ -9,11 +11,11 @@ use Rattle.xs_scene.specs.declared.node.Node.{Node}
 use Rattle.xs_scene.specs.declared.node.Node.TheVariants.{Pair, Card, Shuffle, Blur, Keep, Delete}
 use Rattle.xs_scene.specs.Records.{SheetRecord}
 use Rattle.xs_meaning.specs.Ends.{NodesEnd, InputsHave}
-use Rattle.xs_meaning.proofs.Lists.{by_test}
 use Rattle.xs_meaning.specs.Palettes.{is_listed}
+use Rattle.xs_meaning.specs.Inputs.{nodes_of, inputs_of}
 use Rattle.xs_schematic.specs.Once.{with_one}
 use Rattle.xs_schematic.specs.Order.{IsOrderable, IsOrder}
-use Rattle.xs_schematic.specs.Visits.{nodes_of, inputs_of, inputs_in, visit_all, visit_node, visits_of}
+use Rattle.xs_schematic.specs.Visits.{inputs_in, visit_all, visit_node, visits_of}
 use Rattle.xs_schematic.proofs.Standing.{IsBegun, IsBegun-nil, IsVisited, IsVisited-with_one, AreVisited-visit_all}
 use Rattle.xs_schematic.proofs.OnceLemmas.{Contains-listed}
 
@@ -32,17 +34,14 @@ ends_of : (k : SheetRecord) (m : ℕ) (r : Ref) → NodesEnd k m r → Each (End
 ends_of k m (ToColumn c) ends = tt
 ends_of k m (ToNode n) ends = (ends, tt)
 
-ends_alone : (k : SheetRecord) (m : ℕ) (r : Ref) → NodesEnd k m r → Each (Ends k m) (nodes_of r ++ [])
-ends_alone k m r ends = Each-append (Ends k m) (nodes_of r) [] (ends_of k m r ends) tt
-
-inputs_end : (k : SheetRecord) (m : ℕ) (node : Option Node) → InputsHave (NodesEnd k m) node → Each (Ends k m) (inputs_of node)
+inputs_end : (k : SheetRecord) (m : ℕ) (node : Option Node) → InputsHave (NodesEnd k m) node → Each (Ends k m) (option_map_or inputs_of node [])
 inputs_end k m None ends = tt
 inputs_end k m (Some (Pair op first second)) ends = Each-append (Ends k m) (nodes_of first) (nodes_of second) (ends_of k m first ends.0) (ends_of k m second ends.1)
 inputs_end k m (Some (Card style)) ends = tt
-inputs_end k m (Some (Shuffle input list)) ends = ends_alone k m input ends
-inputs_end k m (Some (Blur input radius)) ends = ends_alone k m input ends
-inputs_end k m (Some (Keep input styles)) ends = ends_alone k m input ends
-inputs_end k m (Some (Delete input styles)) ends = ends_alone k m input ends
+inputs_end k m (Some (Shuffle input list)) ends = ends_of k m input ends
+inputs_end k m (Some (Blur input radius)) ends = ends_of k m input ends
+inputs_end k m (Some (Keep input styles)) ends = ends_of k m input ends
+inputs_end k m (Some (Delete input styles)) ends = ends_of k m input ends
 
 -- the inputs of a node are nodes whose ways end one node earlier
 pub inputs_that_end :
@@ -69,7 +68,7 @@ IsVisited-visit_node k orderable (suc m) n node ends order begun =
     in
     let new = visit_all (visit_node nodes m) inputs order in
     let put = IsVisited-with_one nodes new n node (All-from_recursion (Contains new) inputs all.has) all.begun in
-    by_test (IsVisited nodes order n) (is_listed order n) order (with_one new n)
+    cond_both (is_listed order n) order (with_one new n) (IsVisited nodes order n)
     (λ stands. record { begun = begun; keeps = λ x at. at; has = Contains-listed order n stands })
     (λ fails. record { begun = put.begun; keeps = λ x at. put.keeps x (all.keeps x at); has = put.has })
 

@@ -1,13 +1,11 @@
 -- What stands in an order
-use Rattle.std.proofs.Common.{◌≡◌, ◌≢◌, ℕ, zero, suc, ◌+◌, ◌<◌, ◌≤◌, Bool, true, false, ◌||◌, cond, eqb, length, take, get_or, List, [], ◌∷◌, ◌++◌, All, AllPairs, Contains, refl, sym, ap, ◌∙◌, subst, ⊎_elim, arith}
-use Rattle.std.specs.List.{list_any, AllByRecursion as Each}
-use Rattle.std.proofs.lemmas.Bool.{cases_lt}
+use Rattle.std.proofs.Common.{◌≡◌, ◌≢◌, ℕ, ◌<◌, length, take, get_or, List, [], ◌∷◌, ◌++◌, All, AllPairs, Contains, sym, ◌∙◌, subst, ⊎_elim, arith}
+use Rattle.std.specs.List.{AllByRecursion as Each}
+use Rattle.std.proofs.lemmas.Bool.{cases_lt, cond_both}
 use Rattle.std.proofs.lemmas.List.{get_or_default, get_or_append_left, get_or_at, take_at, take-append-le, length_push}
 use Rattle.std.proofs.lemmas.List.Elements.{All-push, Contains-push, Contains-append_left}
-use Rattle.std.proofs.lemmas.List.Folds.{list_any_at}
 use Rattle.std.proofs.lemmas.List.Quantifiers.{all_pairs_push}
 use Rattle.xs_scene.specs.declared.node.Node.{Node}
-use Rattle.xs_meaning.proofs.Lists.{by_test}
 use Rattle.xs_meaning.specs.Palettes.{is_listed}
 use Rattle.xs_schematic.specs.Visits.{inputs_in, visit_all}
 use Rattle.xs_schematic.specs.Once.{with_one}
@@ -60,7 +58,7 @@ pub IsVisited-with_one :
     (nodes : List Node) (order : List ℕ) (n : ℕ) → n < length nodes → All (Contains order) (inputs_in nodes n)
     → IsBegun nodes order → IsVisited nodes order n (with_one order n)
 IsVisited-with_one nodes order n node inputs begun =
-    by_test (IsVisited nodes order n) (is_listed order n) order (order ++ n ∷ [])
+    cond_both (is_listed order n) order (order ++ n ∷ []) (IsVisited nodes order n)
     (λ stands. record { begun = begun; keeps = λ x at. at; has = Contains-listed order n stands })
     (λ fails. record {
       begun = IsBegun-push nodes order n node (unlisted-Contains order n fails) inputs begun;

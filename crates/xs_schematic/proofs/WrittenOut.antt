@@ -1,20 +1,19 @@
 -- A visit that skips what stands in the order puts there what the node is made from, written out
-use Rattle.std.proofs.Common.{◌≡◌, ℕ, zero, suc, true, false, cond, ◌<◌, ◌≤◌, length, get_or, take, drop, slice_get, Option, Some, None, List, [], ◌∷◌, ◌++◌, All, Contains, refl, sym, ap, ◌∙◌, subst, arith, fold, flat_map}
+use Rattle.std.proofs.Common.{◌≡◌, ℕ, zero, suc, ◌<◌, length, take, drop, List, [], ◌∷◌, All, Contains, sym, ap, ◌∙◌, subst, flat_map}
 use Rattle.std.specs.List.{range_with_len, AllByRecursion as Each}
+use Rattle.std.proofs.lemmas.Bool.{cond_both}
 use Rattle.std.proofs.lemmas.List.{get_or_default, take-append-drop}
 use Rattle.std.proofs.lemmas.List.Elements.{All-from_recursion, recursion_from_All, Contains-append_left}
-use Rattle.std.proofs.lemmas.List.FromFn.{length-range_with_len, get_or-range_with_len}
 use Rattle.xs_scene.specs.declared.node.Ref.TheVariants.{Node as ToNode}
 use Rattle.xs_scene.specs.declared.node.Node.{Node}
 use Rattle.xs_scene.specs.Records.{SheetRecord}
 use Rattle.xs_meaning.specs.Ends.{NodesEnd}
 use Rattle.xs_meaning.specs.Palettes.{is_listed}
-use Rattle.xs_meaning.proofs.Lists.{by_test}
 use Rattle.xs_schematic.specs.Once.{with_one, with_each, each_once}
 use Rattle.xs_schematic.specs.Order.{IsOrderable, made_from, all_made_from}
 use Rattle.xs_schematic.specs.Visits.{inputs_in, visit_all, visit_node, visits_of}
 use Rattle.xs_schematic.proofs.Standing.{IsBegun, IsBegun-nil}
-use Rattle.xs_schematic.proofs.OnceLemmas.{Contains-listed, with_each-nil, with_each-one, with_each-append, with_each-known, with_each-fresh}
+use Rattle.xs_schematic.proofs.OnceLemmas.{Contains-listed, with_each-nil, with_each-one, with_each-append, with_each-known}
 use Rattle.xs_schematic.proofs.OrderLemmas.{Each-append, IsVisited-visit_node, inputs_that_end, numbers_that_end}
 
 Contains-of-take : (order : List ℕ) (i x : ℕ) → Contains (take i order) x → Contains order x
@@ -74,8 +73,8 @@ unfolding NodesEnd visit_node made_from
 visit_node-with_each k orderable zero n node ends order begun = absurd ends
 visit_node-with_each k orderable (suc m) n node ends order begun =
     let inputs = inputs_in k.nodes n in
-    by_test (λ (new : List ℕ). new ≡ with_each order (made_from k.nodes (suc m) n)) (is_listed order n) order
-    (with_one (visit_all (visit_node k.nodes m) inputs order) n)
+    cond_both (is_listed order n) order (with_one (visit_all (visit_node k.nodes m) inputs order) n)
+    (λ (new : List ℕ). new ≡ with_each order (made_from k.nodes (suc m) n))
     (λ stands. sym (with_each-known order (made_from k.nodes (suc m) n)
     (All-from_recursion (Contains order) (made_from k.nodes (suc m) n)
     (made_from-stands k.nodes order begun (suc m) n (Contains-listed order n stands)))))
@@ -90,4 +89,3 @@ visits_of-each_once k orderable =
     let count = length k.nodes in
     all-with_each k orderable count (visit_node-with_each k orderable count) (range_with_len 0 count)
     (numbers_that_end k orderable) [] (IsBegun-nil k.nodes)
-    ∙ with_each-fresh [] (all_made_from k.nodes)

@@ -16,6 +16,5 @@ abbrev pub with_one : List ℕ → ℕ → List ℕ
 with_one known d = if is_listed known d then known else known ++ d ∷ []
 
 -- known numbers, and those of a list that are new
-unfoldable pub with_each : List ℕ → List ℕ → List ℕ
-with_each known [] = known
-with_each known (d ∷ ds) = with_each (with_one known d) ds
+abbrev pub with_each : List ℕ → List ℕ → List ℕ
+with_each known xs = known ++ fresh known xs

@@ -3,8 +3,8 @@
 #![tactic(auto)]
 
 pub mod laws;
-pub mod rendered;
-pub mod visits;
+mod rendered;
+mod visits;
 
 pub use rendered::terminals;
 pub use visits::order;

@@ -1,6 +1,7 @@
 ghost use Rattle.std.specs.Prelude.{◌≡◌, ◌++◌, IfOk, OnOk};
 ghost use Rattle.std.specs.Option.{option_to_list};
-ghost use Rattle.xs_schematic.specs.Visits.{visit_node, visit_all, inputs_in, nodes_of};
+ghost use Rattle.xs_meaning.specs.Inputs.{nodes_of};
+ghost use Rattle.xs_schematic.specs.Visits.{visit_node, visit_all, inputs_in};
 ghost use Rattle.xs_schematic.specs.Once.{each_once, with_one};
 ghost use Rattle.xs_schematic.specs.Order.{IsOrderable, IsOrder, all_made_from};
 

@@ -1,11 +1,11 @@
 use Rattle.std.proofs.Common.{ℕ, List}
 use Rattle.xs_pixel.specs.Channels.{Channels}
-use Rattle.xs_direct.specs.Frames.{line_of}
+use Rattle.xs_direct.specs.Frames.{frame_line}
 use Rattle.xs_direct.specs.Pictures.{pictures_in}
 use Rattle.xs_direct.proofs.FrameLemmas.{line_more}
 use Rattle.xs_direct.proofs.frame.push_lines.Goals as goal
 
 pub loop-y-preserved : goal.loop-y-preserved
 loop-y-preserved g c =
-    let line : ℕ → List Channels = λ y. line_of c.args.s.now (pictures_in c.args.drawings.now) c.args.row y c.args.w in
+    let line : ℕ → List Channels = λ y. frame_line c.args.s.now (pictures_in c.args.drawings.now) c.args.row y c.args.w in
     line_more c.args.bytes.now.items c.loop-y.bytes.items c.push_line.new.bytes.items line c.loop-y.y c.loop-y.invariant c.in_ok-push_line.ensures

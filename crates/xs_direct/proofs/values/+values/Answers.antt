@@ -1,4 +1,4 @@
-use Rattle.std.proofs.Common.{◌≡◌, ℕ, ◌+◌, ◌*◌, ◌-◌, ◌≤◌, Some, None, length, slice_get, refl, sym, ap, ap₂, ◌∙◌, subst, rules, arith}
+use Rattle.std.proofs.Common.{◌≡◌, ℕ, ◌+◌, ◌*◌, ◌-◌, ◌^◌, ◌<◌, ◌≤◌, Some, None, length, slice_get, refl, sym, ap, ap₂, ◌∙◌, subst, rules, arith}
 use Rattle.std.proofs.lemmas.List.{get_or_default, take_all}
 use Rattle.xs_pixel.specs.Channels.{Channels}
 use Rattle.xs_pixel.specs.Operations.{apply_of}
@@ -15,7 +15,7 @@ use Rattle.xs_direct.specs.Room.{blur_reach, peg_reach, room_for, sheet_reach}
 use Rattle.xs_direct.specs.Sums.{AreSums, sums_at, line_of}
 use Rattle.xs_direct.specs.Values.{value_within, stack_of}
 use Rattle.xs_direct.proofs.FilterLemmas.{dropped_of-Keep, dropped_of-Delete}
-use Rattle.xs_direct.proofs.Rooms.{HasRoom-less, HasRoom-minus, HasRoom-plus}
+use Rattle.xs_direct.proofs.Rooms.{CanMove-less, CanMove-minus, CanMove-plus}
 use Rattle.xs_direct.proofs.Stacks.{stack_more, columns_more, columns_off}
 use Rattle.xs_direct.proofs.SumLemmas.{AreSums-more, AreSums-clear, AreSums-added, sums-none, lines-none, line_more, lines_more, blurred-lines, lines_fit, lines_fit_more}
 use Rattle.xs_direct.proofs.ValueLemmas.{row-listed, row-columns, node-none, node-pair, node-card, node-shuffle, node-past_the_list, node-blur, node-keep, node-delete}
@@ -27,13 +27,14 @@ use Rattle.xs_direct.proofs.values.+values.Goals.{node_at-in-Some, node_at-in-No
 pub row_at-stacked-requires : goal.row_at-stacked-requires
 row_at-stacked-requires g t c κs within =
     let few : length c.items.result.now ≤ 256 = subst (λ n. n ≤ 256) (ap (λ (k : SheetRecord). length k.nodes) (sym c.sheet.view_is) ∙ ap length (sym c.items.ensures)) c.sheet-sheet.ensures.good.few_nodes in
-    (search rules, (search rules, (c.requires.sheet, HasRoom-less (sheet_reach * c.args.depth) (room_for (c.args.depth - 1) (length c.items.result.now + 1)) c.args.p (omega arith) c.requires.room)))
+    (search rules, (search rules, (c.requires.sheet, CanMove-less (sheet_reach * c.args.depth) (room_for (c.args.depth - 1) (length c.items.result.now + 1)) c.args.p (omega arith) c.requires.room)))
 
 pub row_at-stacked_columns-requires : goal.row_at-stacked_columns-requires
 row_at-stacked_columns-requires g t c κs within =
     let few : length c.items.result.now ≤ 256 = subst (λ n. n ≤ 256) (ap (λ (k : SheetRecord). length k.nodes) (sym c.sheet.view_is) ∙ ap length (sym c.items.ensures)) c.sheet-sheet.ensures.good.few_nodes in
     let columns : length c.items-columns.result.now ≤ 1024 = subst (λ n. n ≤ 1024) (ap (λ (k : SheetRecord). length k.columns) (sym c.sheet.view_is) ∙ ap length (sym c.items-columns.ensures)) c.sheet-sheet.ensures.good.few_columns in
-    (search rules, (search rules, (c.requires.sheet, (columns, HasRoom-less (sheet_reach * c.args.depth) (room_for (c.args.depth - 1) (length c.items.result.now + 1)) c.args.p (omega arith) c.requires.room))))
+    let fits : length c.items-columns.result.now < 2 ^ 32 = omega arith in
+    (search rules, (search rules, (c.requires.sheet, (fits, CanMove-less (sheet_reach * c.args.depth) (room_for (c.args.depth - 1) (length c.items.result.now + 1)) c.args.p (omega arith) c.requires.room))))
 
 pub row_at-returns-in-Some : goal.row_at-returns-in-Some
 row_at-returns-in-Some g t c =
@@ -85,15 +86,15 @@ stacked_columns-returns g t c =
 
 pub value_at-column_at-requires : goal.value_at-column_at-requires
 value_at-column_at-requires g t c κs within =
-    (search rules, (search rules, (c.requires.sheet, HasRoom-less (room_for c.args.depth c.args.below) (sheet_reach * c.args.depth + peg_reach) c.args.p (omega arith) c.requires.room)))
+    (search rules, (search rules, (c.requires.sheet, CanMove-less (room_for c.args.depth c.args.below) (sheet_reach * c.args.depth + peg_reach) c.args.p (omega arith) c.requires.room)))
 
 pub value_at-node_at-requires : goal.value_at-node_at-requires
 value_at-node_at-requires g t c κs within =
-    (search rules, (search rules, (c.requires.sheet, HasRoom-less (room_for c.args.depth c.args.below) (room_for c.args.depth (c.args.below - 1) + blur_reach) c.args.p (omega arith) c.requires.room)))
+    (search rules, (search rules, (c.requires.sheet, CanMove-less (room_for c.args.depth c.args.below) (room_for c.args.depth (c.args.below - 1) + blur_reach) c.args.p (omega arith) c.requires.room)))
 
 pub column_at-less-moved-requires-clause-room : goal.column_at-less-moved-requires-clause-room
 column_at-less-moved-requires-clause-room g t c =
-    HasRoom-less (sheet_reach * c.args.depth + peg_reach) peg_reach c.args.p (omega arith) c.requires.room
+    CanMove-less (sheet_reach * c.args.depth + peg_reach) peg_reach c.args.p (omega arith) c.requires.room
 
 pub column_at-row_at-requires : goal.column_at-row_at-requires
 column_at-row_at-requires g t c κs within = (
@@ -102,7 +103,7 @@ column_at-row_at-requires g t c κs within = (
     search rules,
     (
       c.in-Row.ensures.there.0,
-      HasRoom-minus (sheet_reach * c.args.depth + peg_reach) (sheet_reach * c.args.depth) peg_reach c.args.p _ _ (omega arith)
+      CanMove-minus (sheet_reach * c.args.depth + peg_reach) (sheet_reach * c.args.depth) peg_reach c.args.p _ _ (omega arith)
           c.requires.room c.place.ensures.near c.less-moved.ensures,
     ),
   ),
@@ -112,23 +113,23 @@ column_at-row_at-requires g t c κs within = (
 
 pub node_at-value_at-upper-requires : goal.node_at-value_at-upper-requires
 node_at-value_at-upper-requires g t c κs within =
-    (search rules, (search rules, (c.requires.sheet, HasRoom-less (room_for c.args.depth c.args.below + blur_reach) (room_for c.args.depth c.args.below) c.args.p (omega arith) c.requires.room)))
+    (search rules, (search rules, (c.requires.sheet, CanMove-less (room_for c.args.depth c.args.below + blur_reach) (room_for c.args.depth c.args.below) c.args.p (omega arith) c.requires.room)))
 
 pub node_at-value_at-lower-requires : goal.node_at-value_at-lower-requires
 node_at-value_at-lower-requires g t c κs within =
-    (search rules, (search rules, (c.requires.sheet, HasRoom-less (room_for c.args.depth c.args.below + blur_reach) (room_for c.args.depth c.args.below) c.args.p (omega arith) c.requires.room)))
+    (search rules, (search rules, (c.requires.sheet, CanMove-less (room_for c.args.depth c.args.below + blur_reach) (room_for c.args.depth c.args.below) c.args.p (omega arith) c.requires.room)))
 
 pub node_at-value_at-requires : goal.node_at-value_at-requires
 node_at-value_at-requires g t c κs within =
-    (search rules, (search rules, (c.requires.sheet, HasRoom-less (room_for c.args.depth c.args.below + blur_reach) (room_for c.args.depth c.args.below) c.args.p (omega arith) c.requires.room)))
+    (search rules, (search rules, (c.requires.sheet, CanMove-less (room_for c.args.depth c.args.below + blur_reach) (room_for c.args.depth c.args.below) c.args.p (omega arith) c.requires.room)))
 
 pub node_at-value_at-requires-in-Some-Keep : goal.node_at-value_at-requires-in-Some-Keep
 node_at-value_at-requires-in-Some-Keep g t c κs within =
-    (search rules, (search rules, (c.requires.sheet, HasRoom-less (room_for c.args.depth c.args.below + blur_reach) (room_for c.args.depth c.args.below) c.args.p (omega arith) c.requires.room)))
+    (search rules, (search rules, (c.requires.sheet, CanMove-less (room_for c.args.depth c.args.below + blur_reach) (room_for c.args.depth c.args.below) c.args.p (omega arith) c.requires.room)))
 
 pub node_at-value_at-requires-in-Some-Delete : goal.node_at-value_at-requires-in-Some-Delete
 node_at-value_at-requires-in-Some-Delete g t c κs within =
-    (search rules, (search rules, (c.requires.sheet, HasRoom-less (room_for c.args.depth c.args.below + blur_reach) (room_for c.args.depth c.args.below) c.args.p (omega arith) c.requires.room)))
+    (search rules, (search rules, (c.requires.sheet, CanMove-less (room_for c.args.depth c.args.below + blur_reach) (room_for c.args.depth c.args.below) c.args.p (omega arith) c.requires.room)))
 
 pub node_at-returns-in-None : goal.node_at-returns-in-None
 node_at-returns-in-None g t c =
@@ -210,14 +211,14 @@ line_sums-loop-i-init g t c =
 
 pub line_sums-plus-at-requires-clause-room : goal.line_sums-plus-at-requires-clause-room
 line_sums-plus-at-requires-clause-room g t c =
-    HasRoom-less (room_for c.args.depth c.args.below + blur_reach) blur_reach c.args.p (omega arith) c.requires.room
+    CanMove-less (room_for c.args.depth c.args.below + blur_reach) blur_reach c.args.p (omega arith) c.requires.room
 
 pub line_sums-value_at-pixel-requires : goal.line_sums-value_at-pixel-requires
 line_sums-value_at-pixel-requires g t c κs within = (
   search rules,
   (
     search rules,
-    (c.requires.sheet, HasRoom-plus (room_for c.args.depth c.args.below + blur_reach) (room_for c.args.depth c.args.below) blur_reach c.args.p _ _ (omega arith) c.requires.room c.offset.ensures.near c.plus-at.ensures),
+    (c.requires.sheet, CanMove-plus (room_for c.args.depth c.args.below + blur_reach) (room_for c.args.depth c.args.below) blur_reach c.args.p _ _ (omega arith) c.requires.room c.offset.ensures.near c.plus-at.ensures),
   ),
 )
 

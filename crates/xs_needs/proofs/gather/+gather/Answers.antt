@@ -1,4 +1,4 @@
-use Rattle.std.proofs.Common.{◌≡◌, ◌≤◌, ◌<◌, ◌-◌, ◌⊎◌, ⊎_elim, ℕ, suc, length, drop, Bool, List, [], OnOk, IsTrue, cond, ap₂, All, Contains, sym, ap, ◌∙◌, subst, arith, rules}
+use Rattle.std.proofs.Common.{◌≡◌, ◌≤◌, ◌<◌, ◌-◌, ◌⊎◌, ⊎_elim, ℕ, suc, length, drop, Bool, List, [], ◌++◌, append-nil, OnOk, IsTrue, cond, ap₂, All, Contains, sym, ap, ◌∙◌, subst, arith, rules}
 use Rattle.indexmap.specs.IndexSet.{contains}
 use Rattle.xs_needs.specs.declared.rule.Rule.{Rule}
 use Rattle.xs_needs.specs.declared.rule.Rule.TheVariants.{Clear, Pixel}
@@ -13,8 +13,7 @@ use Rattle.xs_needs.specs.Spots.{same_spot}
 use Rattle.xs_schematic.specs.Once.{with_each}
 use Rattle.xs_needs.specs.Rules.{shown, showing_by, rule_of, drawings_at, is_clear_at, drawings_over, AreThere, LeadsTo, WaysEnd, input_spot}
 use Rattle.xs_needs.specs.Shown.{Showing, drawings_in, first_stays, second_stays}
-use Rattle.xs_schematic.proofs.OnceLemmas.{with_each-nil, with_each-one, with_each-known, with_each-has}
-use Rattle.xs_needs.proofs.GatherLemmas.{OnOk-both, gathered-pair, over-start, over-step, sound-note, sound-add}
+use Rattle.xs_needs.proofs.GatherLemmas.{OnOk-both, with_none, gathered-pair, over-start, over-step, sound-note, sound-add}
 use Rattle.xs_needs.proofs.Remembered.{whole-noted, whole-found, listed-noted}
 use Rattle.xs_needs.proofs.Showings.{shown-rule, composed-drawings}
 use Rattle.xs_needs.proofs.Ways.{WaysEnd-positive, WaysEnd-step}
@@ -34,7 +33,7 @@ none_gathered :
     (s : SceneRecord) (old : List ℕ) (k row : ℕ) (r : Rule) → (r ≡ Clear) ⊎ (r ≡ Pixel)
     → old ≡ with_each old (drawings_in (showing_by s (shown s) k row r))
 none_gathered s old k row r is =
-    sym (with_each-nil old)
+    sym (with_none old)
     ∙ ⊎_elim (λ clear. ap (λ (r : Rule). with_each old (drawings_in (showing_by s (shown s) k row r))) (sym clear))
     (λ pixel. ap (λ (r : Rule). with_each old (drawings_in (showing_by s (shown s) k row r))) (sym pixel)) is
 
@@ -42,10 +41,12 @@ pub gather-returns-then-has_all_of-clause-drawings : goal.gather-returns-then-ha
 gather-returns-then-has_all_of-clause-drawings t c =
     let s = c.args.s.now in
     let spot = c.args.spot in
-    sym
-    (with_each-known c.args.found.now.gathered.drawings.keys (drawings_at s spot)
-    (whole-found s c.args.found.now.gathered.drawings.keys c.args.found.now.gathered.whole.keys spot c.requires.sound.whole
-    (sym c.has_all_of.ensures ∙ c.if-has_all_of.true)))
+    let old = c.args.found.now.gathered.drawings.keys in
+    let all =
+    whole-found s old c.args.found.now.gathered.whole.keys spot c.requires.sound.whole
+    (sym c.has_all_of.ensures ∙ c.if-has_all_of.true)
+    in
+    sym (ap (λ new. old ++ new) (c.each_number_is_taken_once.ensures.nothing_new old (drawings_at s spot) all) ∙ append-nil old)
 
 pub gather-gather_by-requires : goal.gather-gather_by-requires
 gather-gather_by-requires t c =
@@ -76,7 +77,7 @@ gather-returns-clause-sound t c =
     let all = all_gathered s c.requires.all_end spot c.in_ok-rule.rule old new.gathered.drawings.keys
     c.in_ok-rule.ensures.rule c.in_ok-gather_by.ensures.drawings
     in
-    let has = subst (λ (xs : List ℕ). All (Contains xs) (drawings_at s spot)) (sym all) (with_each-has old (drawings_at s spot)) in
+    let has = subst (λ (xs : List ℕ). All (Contains xs) (drawings_at s spot)) (sym all) (c.each_number_is_taken_once.ensures.found old (drawings_at s spot)) in
     OnOk-both c.note.result _ _ (IsSound s (record { known = new.known; gathered = c.note.new.self }))
     (λ same is.
     sound-note s new c.note.new.self c.in_ok-gather_by.ensures.sound same
@@ -98,7 +99,7 @@ gather_by-returns-in-Drawing-clause-drawings t c =
     let s = c.args.s.now in
     let spot = c.args.spot in
     let old = c.args.found.now.gathered.drawings.keys in
-    let same = sym (with_each-one old c.in-Drawing.drawing)
+    let same = sym (c.each_number_is_taken_once.ensures.alone old c.in-Drawing.drawing)
     ∙ ap (λ (r : Rule). with_each old (drawings_in (showing_by s (shown s) spot.sheet spot.row r))) (sym c.in-Drawing.is)
     in
     subst (λ (xs : List ℕ). OnOk c.add.result (c.add.new.self.drawings.keys ≡ xs)) same c.add.ensures.drawings
@@ -137,7 +138,7 @@ gather_by-returns-in-Clear-2-clause-drawings t c =
 pub gather_if-returns-else-wanted-clause-drawings : goal.gather_if-returns-else-wanted-clause-drawings
 gather_if-returns-else-wanted-clause-drawings t c =
     let old = c.args.found.now.gathered.drawings.keys in
-    sym (with_each-nil old)
+    sym (with_none old)
     ∙ ap (λ b. with_each old (cond b (drawings_at c.args.s.now c.args.spot) [])) (sym c.if-wanted.false)
 
 pub gather_over-loop-below-init : goal.gather_over-loop-below-init
@@ -168,7 +169,7 @@ gather_over-loop-below-preserved t c =
       drawings =
           c.in_ok-gather.ensures.drawings
           ∙ ap₂ (λ (xs : List ℕ) (p : Spot). with_each xs (drawings_at s p)) before c.input-at.ensures
-          ∙ over-step old E ts i c.loop-below.below (ToColumn 0) next inside;
+          ∙ over-step c.each_number_is_taken_once.ensures.one_after_another old E ts i c.loop-below.below (ToColumn 0) next inside;
     }
 
 pub gather_pair-returns-clause-drawings : goal.gather_pair-returns-clause-drawings
@@ -188,7 +189,7 @@ gather_pair-returns-clause-drawings t c =
     c.in_ok-gather_if.ensures.drawings ∙ ap (λ (w : Bool). with_each old (cond w (drawings_at s a) [])) first_is in
     let all =
     ap₂ (λ (xs : List ℕ) (w : Bool). with_each xs (cond w (drawings_at s b) [])) mid second_is
-    ∙ gathered-pair old stays (shown s a) (shown s b)
+    ∙ gathered-pair c.each_number_is_taken_once.ensures.one_after_another old stays (shown s a) (shown s b)
     in
     subst (λ (xs : List ℕ). OnOk c.gather_if-2.result (c.gather_if-2.new.found.gathered.drawings.keys ≡ xs)) all
     c.gather_if-2.ensures.drawings

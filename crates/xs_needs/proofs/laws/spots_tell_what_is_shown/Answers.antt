@@ -8,5 +8,5 @@ returns c =
       drawings = drawings-row_expr;
       clear = clear-row_expr;
       rules = shown-rule;
-      ends = row-ends;
+      ends = row-ends c.seen_sheets_end_sooner.ensures;
     }

@@ -1,4 +1,6 @@
-use Rattle.std.proofs.Common.{◌≡◌, ◌≤◌, ◌<◌, ℕ, Bool, List, [], Result, Ok, Err, IfOk, All, Contains, length, sym, ap, ◌∙◌, subst, arith}
+use Rattle.std.proofs.Common.{◌≡◌, ◌≤◌, ◌<◌, ℕ, Bool, List, [], IfOk, All, Contains, length, sym, ap, ◌∙◌, subst, arith}
+use Rattle.std.proofs.lemmas.List.Elements.{All-nil}
+use Rattle.std.proofs.lemmas.Result.{IfOk-weaker}
 use Rattle.xs_scene.specs.Records.{SceneRecord, SheetRecord}
 use Rattle.xs_meaning.specs.Palettes.{none_dropped}
 use Rattle.xs_meaning.specs.Points.{opposite}
@@ -11,9 +13,6 @@ use Rattle.xs_needs.specs.declared.spot.Spot.{Spot}
 use Rattle.xs_needs.specs.Found.{AreRight, AreWhole}
 use Rattle.xs_schematic.specs.Once.{fresh, with_each}
 use Rattle.xs_needs.specs.Rules.{spot, drawings_at, is_clear_at}
-use Rattle.xs_schematic.proofs.OnceLemmas.{with_each-fresh}
-use Rattle.xs_needs.proofs.Showings.{drawings-row_expr}
-use Rattle.xs_needs.proofs.Ways.{row-ends}
 use Rattle.xs_needs.proofs.needs.row_drawings.Goals as goal
 
 few_nodes : (s : SceneRecord) → IsGood s → (k : ℕ) → length (sheet_at s.sheets k).nodes ≤ 256
@@ -21,32 +20,24 @@ few_nodes s good k =
     All-slice_index_or (λ (sheet : SheetRecord). length sheet.nodes ≤ 256) s.sheets k no_sheet (omega arith)
     (λ i d lt. (good.sheets i d lt).few_nodes)
 
-nothing : {A : Type 0} (P : A → Type 0) → All P []
-nothing P i a lt = absurd (omega arith)
-
-IfOk-map :
-    {A E : Type 0} (r : Result A E) (P Q : A → Type 0) → ((a : A) → P a → Q a) → IfOk r P → IfOk r Q
-IfOk-map (Ok a) P Q leads is = leads a is
-IfOk-map (Err e) P Q leads is = tt
-
 pub gather-requires : goal.gather-requires
 gather-requires c =
     let s = c.args.s.now in
-    let good = c.scene-good.ensures.good in
+    let good = c.scene.ensures.good in
     let known = c.new-2.result.drawings.keys in
     record {
       all_end = good.ends;
       there = good.first_sheet;
-      ends = row-ends s good.ends (few_nodes s good) 0 c.args.row;
+      ends = c.spots_tell_what_is_shown.ensures.ends s good.ends (few_nodes s good) 0 c.args.row;
       sound =
           record {
-            right = subst (AreRight s) (sym c.new.ensures) (nothing (λ (e : Spot × Bool). e.1 ≡ is_clear_at s e.0));
+            right = subst (AreRight s) (sym c.new.ensures) (All-nil (λ (e : Spot × Bool). e.1 ≡ is_clear_at s e.0));
             whole =
                 subst (AreWhole s known) (sym c.new-2.ensures.whole)
-                (nothing (λ (p : Spot). All (Contains known) (drawings_at s p)));
+                (All-nil (λ (p : Spot). All (Contains known) (drawings_at s p)));
             below =
                 subst (All (λ d. d < length (files_of s.levels))) (sym c.new-2.ensures.drawings)
-                (nothing (λ (d : ℕ). d < length (files_of s.levels)));
+                (All-nil (λ (d : ℕ). d < length (files_of s.levels)));
           };
     }
 
@@ -57,13 +48,12 @@ returns-clause-value c =
     let all =
     c.in_ok-gather.ensures.drawings
     ∙ ap (λ (known : List ℕ). with_each known drawings) c.new-2.ensures.drawings
-    ∙ with_each-fresh [] drawings
-    ∙ ap (fresh []) (sym (drawings-row_expr s 0 c.args.row none_dropped (opposite (camera_at s c.args.row))))
+    ∙ ap (fresh []) (sym (c.spots_tell_what_is_shown.ensures.drawings s 0 c.args.row none_dropped (opposite (camera_at s c.args.row))))
     in
     subst (λ (xs : List ℕ). IfOk c.into_drawings.result (λ v. v.items ≡ xs)) all c.into_drawings.ensures
 
 pub returns-clause-there : goal.returns-clause-there
 returns-clause-there c =
-    IfOk-map c.into_drawings.result _ (λ v. All (λ d. d < length (files_of c.args.s.now.levels)) v.items)
+    IfOk-weaker c.into_drawings.result _ (λ v. All (λ d. d < length (files_of c.args.s.now.levels)) v.items)
     (λ v is. subst (All (λ d. d < length (files_of c.args.s.now.levels))) (sym is) c.in_ok-gather.ensures.sound.below)
     c.into_drawings.ensures

@@ -1,4 +1,4 @@
-use Rattle.std.proofs.Common.{◌≡◌, ◌∙◌, ℕ, zero, suc, ◌<◌, ◌≤◌, length, List, [], ◌∷◌, All, Option, Some, None, SomeIff, ap, sym, subst, arith}
+use Rattle.std.proofs.Common.{◌≡◌, ◌∙◌, ℕ, zero, suc, ◌<◌, List, [], ◌∷◌, All, Option, Some, None, SomeIff, ap, sym, subst, arith}
 use Rattle.std.proofs.lemmas.List.Elements.{All-from_recursion}
 use Rattle.xs_pixel.specs.declared.operation.Op.TheVariants.{Over, Add}
 use Rattle.xs_scene.specs.declared.node.Node.{Node}

@@ -2,12 +2,12 @@ use std::marker::Model;
 
 /// A point of the picture.
 #[derive(Clone, Copy, Debug)]
-pub(crate) struct Spot {
+pub(crate) struct Position {
     pub x: i32,
     pub y: i32,
 }
 
-impl Model for Spot {
+impl Model for Position {
     ghost use Rattle.xs_meaning.specs.Points.{Point, point};
 
     ghost Value = { Point };
@@ -17,19 +17,19 @@ impl Model for Spot {
     ghost inverse = { λ p. record { x = p.x; y = p.y } };
 }
 
-impl Spot {
+impl Position {
     ghost use Rattle.std.specs.Prelude.{◌≡◌, ◌*◌, ◌≤◌, pos, ◌-ℤ◌};
     ghost use Rattle.xs_meaning.specs.Bounds.{IsWithin};
     ghost use Rattle.xs_meaning.specs.Points.{Point, point, plus, minus};
-    ghost use Rattle.xs_direct.specs.Room.{HasRoom, blur_reach, peg_reach};
+    ghost use Rattle.xs_direct.specs.Room.{CanMove, blur_reach, peg_reach};
 
     /// The point less an offset.
-    pub(crate) fn less(self, by: (i32, i32)) -> Spot
-        requires room { HasRoom peg_reach self }
+    pub(crate) fn less(self, by: (i32, i32)) -> Position
+        requires room { CanMove peg_reach self }
         requires near { IsWithin peg_reach (point by.0 by.1) }
         ensures { result ≡ minus self (point by.0 by.1) }
     {
-        Spot {
+        Position {
             x: self.x - by.0,
             y: self.y - by.1,
         }
@@ -37,26 +37,26 @@ impl Spot {
 
     /// The offset of a place of a square from its middle. The places are numbered along each axis from 0,
     /// and the square has `2 * n + 1` of them each way.
-    pub(crate) fn offset(i: u32, j: u32, n: u32) -> Spot
-        requires small { n ≤ 16 }
+    pub(crate) fn offset(i: u32, j: u32, n: u32) -> Position
+        requires small { n ≤ blur_reach }
         requires across { i ≤ 2 * n }
         requires up { j ≤ 2 * n }
         ensures value { result ≡ point (pos i -ℤ pos n) (pos j -ℤ pos n) }
         ensures near { IsWithin blur_reach result }
     {
-        Spot {
+        Position {
             x: i as i32 - n as i32,
             y: j as i32 - n as i32,
         }
     }
 
     /// The point plus an offset.
-    pub(crate) fn plus(self, by: Spot) -> Spot
-        requires room { HasRoom blur_reach self }
+    pub(crate) fn plus(self, by: Position) -> Position
+        requires room { CanMove blur_reach self }
         requires near { IsWithin blur_reach by }
         ensures { result ≡ plus self by }
     {
-        Spot {
+        Position {
             x: self.x + by.x,
             y: self.y + by.y,
         }

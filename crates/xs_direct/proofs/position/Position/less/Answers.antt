@@ -2,7 +2,7 @@ use Rattle.std.proofs.Common.{◌≡◌, ◌-ℤ◌, to_z, of_z, w32, arith}
 use Rattle.std.proofs.lemmas.Int.{ints}
 use mathlib.Core.Path.{ap₂}
 use Rattle.xs_meaning.specs.Points.{point}
-use Rattle.xs_direct.proofs.spot.Spot.less.Goals as goal
+use Rattle.xs_direct.proofs.position.Position.less.Goals as goal
 
 pub returns : goal.returns
 returns c =

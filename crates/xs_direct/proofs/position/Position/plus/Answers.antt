@@ -2,7 +2,7 @@ use Rattle.std.proofs.Common.{◌≡◌, ◌+ℤ◌, to_z, of_z, w32, arith}
 use Rattle.std.proofs.lemmas.Int.{ints}
 use mathlib.Core.Path.{ap₂}
 use Rattle.xs_meaning.specs.Points.{point}
-use Rattle.xs_direct.proofs.spot.Spot.plus.Goals as goal
+use Rattle.xs_direct.proofs.position.Position.plus.Goals as goal
 
 pub returns : goal.returns
 returns c =
