@@ -4,6 +4,3 @@
 pub mod word;
 
 pub use word::{Cm32, colour, pure_tones, word_layout};
-
-#[cfg(test)]
-mod tests;

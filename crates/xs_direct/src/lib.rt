@@ -13,6 +13,3 @@ mod values;
 
 pub use frame::{frame_direct, pixel_at};
 pub use held::are_drawings_held;
-
-#[cfg(test)]
-mod tests;

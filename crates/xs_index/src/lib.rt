@@ -10,6 +10,3 @@ pub mod timed;
 pub use index::Index;
 pub use search::{key_in, offset_in, seen_in};
 pub use timed::Timed;
-
-#[cfg(test)]
-mod tests;

@@ -6,6 +6,3 @@ pub mod palette;
 
 pub use fault::PaletteFault;
 pub use palette::{MOST_STYLES, Palette};
-
-#[cfg(test)]
-mod tests;

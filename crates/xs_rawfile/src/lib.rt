@@ -15,6 +15,3 @@ pub use drawings::Drawings;
 pub use fault::{LevelCode, LevelFault};
 pub use frame::frame_bytes;
 pub use level::{level_format, read_level, write_level};
-
-#[cfg(test)]
-mod tests;
