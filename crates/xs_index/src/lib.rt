@@ -8,5 +8,6 @@ pub mod search;
 pub mod timed;
 
 pub use index::Index;
+pub use order::in_order;
 pub use search::{key_in, offset_in, seen_in};
 pub use timed::Timed;

@@ -44,7 +44,7 @@ const LONG: u32 = 300_000;
 fn chain(alloc: Global) -> Result<Vec<List<u32>>, AllocError> {
     let mut links = Vec::new(alloc);
     for a in 0..LONG {
-        links.push(List::of(vec![in alloc; a + 1]?))?;
+        links.push(List::of([a + 1].to_vec(alloc)?))?;
     }
     Ok(links)
 }

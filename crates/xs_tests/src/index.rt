@@ -2,8 +2,7 @@
 
 use crate::scenes::{OF_EACH_KIND, good_scene};
 use std::test::Fail;
-use xs_index::order::{in_order, last_at, next_at};
-use xs_index::{Index, key_in, offset_in, seen_in};
+use xs_index::{Index, in_order, key_in, offset_in, seen_in};
 use xs_pixel::Style;
 use xs_scene::{Exposure, PegKey, Seen, Shown, StyleKey};
 
@@ -25,8 +24,6 @@ fn keys_in_any_order_are_found(rt: HostRuntime) -> Result<(), Fail> {
     let early = PegKey::new(1, 1, -1, true).ok_or("no key")?;
     let keys = in_order(rt.alloc(), &[late, early])?;
     assert_eq!(rt; offset_in(keys.items(), 3), (5, 1));
-    assert_eq!(rt; last_at(keys.items(), 0, 4), Some(early));
-    assert_eq!(rt; next_at(keys.items(), 0, 4), Some(late));
     Ok(())
 }
 

@@ -33,8 +33,9 @@ fn line_keys_move_a_peg_and_round_down(rt: HostRuntime) -> Result<(), Fail> {
 
 #[test]
 fn a_sheet_tells_cells_and_places(rt: HostRuntime) -> Result<(), Fail> {
-    let scene = good_scene(rt.alloc(), OF_EACH_KIND)?.into_scene();
-    let sheet = scene.sheets.items().first().ok_or("no sheet")?;
+    let good = good_scene(rt.alloc(), OF_EACH_KIND)?;
+    good.scene();
+    let sheet = good.sheet(0);
     let second = Seen::Drawing { level: 1, index: 1 };
     assert_eq!(rt; cell(sheet, 1, 2), second);
     assert_eq!(rt; cell(sheet, 1, 4), Seen::Row { sheet: 1, row: 8 });
