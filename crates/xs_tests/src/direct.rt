@@ -4,7 +4,7 @@ use crate::scenes::{OF_A_CARD, good_scene};
 use std::alloc::Global;
 use std::marker::Brand;
 use std::test::Fail;
-use xs_direct::{are_drawings_held, frame_direct, pixel_at};
+use xs_direct::{are_drawings_held, frame_direct};
 use xs_pixel::List;
 use xs_rawfile::{Drawing, Drawings, RawKind};
 
@@ -27,8 +27,6 @@ fn lays_a_drawing_over_a_card(rt: HostRuntime) -> Result<(), Fail> {
         frame_direct(rt.alloc(), &scene, &drawings, 1)?.as_slice(),
         b"XFR1\x02\0\0\0\x01\0\0\0\x80\0\0\x80\x0a\x14\x1e\xff".as_slice()
     );
-    let pixel = pixel_at(&scene, &drawings, 1, 1, 0);
-    assert_eq!(rt; pixel.to_bytes(), [10, 20, 30, 255]);
     Ok(())
 }
 

@@ -1,10 +1,9 @@
-//! Searches in cells and keys that stand in any order.
+//! A search in cells that stand in any order, and the lists of a scene.
 
 use crate::scenes::{OF_EACH_KIND, good_scene};
 use std::test::Fail;
-use xs_index::{Index, in_order, key_in, offset_in, seen_in};
-use xs_pixel::Style;
-use xs_scene::{Exposure, PegKey, Seen, Shown, StyleKey};
+use xs_index::{Index, in_order, seen_in};
+use xs_scene::{Exposure, Seen, Shown};
 
 #[test]
 fn cells_in_any_order_are_found(rt: HostRuntime) -> Result<(), Fail> {
@@ -15,31 +14,6 @@ fn cells_in_any_order_are_found(rt: HostRuntime) -> Result<(), Fail> {
     let cells = in_order(rt.alloc(), &[late, early])?;
     assert_eq!(rt; seen_in(cells.items(), 9), Seen::Row { sheet: 1, row: 7 });
     assert_eq!(rt; seen_in(cells.items(), 4), Seen::Empty);
-    Ok(())
-}
-
-#[test]
-fn keys_in_any_order_are_found(rt: HostRuntime) -> Result<(), Fail> {
-    let late = PegKey::new(5, 9, 3, false).ok_or("no key")?;
-    let early = PegKey::new(1, 1, -1, true).ok_or("no key")?;
-    let keys = in_order(rt.alloc(), &[late, early])?;
-    assert_eq!(rt; offset_in(keys.items(), 3), (5, 1));
-    Ok(())
-}
-
-#[test]
-fn palette_keys_in_any_order_are_found(rt: HostRuntime) -> Result<(), Fail> {
-    let red = Style {
-        r: 255,
-        g: 0,
-        b: 0,
-        a: 255,
-    };
-    let second = StyleKey::new(3, 2, red).ok_or("no key")?;
-    let first = StyleKey::new(4, 1, red).ok_or("no key")?;
-    let keys = in_order(rt.alloc(), &[second, first])?;
-    assert_eq!(rt; key_in(keys.items(), 1, 4), Some(first));
-    assert_eq!(rt; key_in(keys.items(), 2, 2), None);
     Ok(())
 }
 

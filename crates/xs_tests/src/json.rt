@@ -1,9 +1,6 @@
 use serde_json::Value;
 use std::test::Fail;
-use xs_json::{
-    Field, FieldFault, Path, Place, SceneCode, all_there, fault_at, flag, has_any, list, object,
-    optional, required, text, whole,
-};
+use xs_json::{Field, Path, Place, SceneCode, flag, list, object, optional, required, text, whole};
 
 #[test]
 fn paths_are_printed(rt: HostRuntime) -> Result<(), Fail> {
@@ -58,35 +55,4 @@ fn codes_are_printed(rt: HostRuntime) {
         assert_eq!(rt; code.number(), number);
         assert_eq!(rt; code.name(), name);
     }
-}
-
-#[test]
-fn faults_are_told_at_their_place(rt: HostRuntime) -> Result<(), Fail> {
-    let alloc = rt.alloc();
-    let root = Path::root(alloc);
-    let scene = Value::from_str(alloc, r#"{"w":1}"#).ok().ok_or("JSON")?;
-    let map = scene.as_object().ok_or("an object")?;
-    assert!(rt; has_any(map, &[Field::H, Field::W]));
-    assert!(rt; all_there(alloc, map, &root, &[Field::W]).is_ok());
-    let faults = [
-        (all_there(alloc, map, &root, &[Field::H]).err(), 3, "/h"),
-        (Some(fault_at(alloc, SceneCode::WrongKind, &root)), 4, ""),
-        (
-            Some(Place::here(&root).fault(alloc, SceneCode::NotJson)),
-            1,
-            "",
-        ),
-        (
-            Some(Place::key(&root, Field::W).fault(alloc, SceneCode::OutOfRange)),
-            5,
-            "/w",
-        ),
-    ];
-    for (fault, number, path) in &faults {
-        let Some(FieldFault::Fault(fault)) = fault else {
-            return Err(Fail::from("a fault"));
-        };
-        assert_eq!(rt; (fault.code.number(), fault.path.text()), (*number, *path));
-    }
-    Ok(())
 }

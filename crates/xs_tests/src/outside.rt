@@ -52,17 +52,3 @@ fn a_shelf_and_notes_in_memory_answer(rt: HostRuntime) -> Result<(), Fail> {
     assert_eq!(rt; notes.bytes(), b"ab\nc".as_slice());
     Ok(())
 }
-
-#[test]
-fn a_library_in_memory_tells_what_it_has_and_was_asked(rt: HostRuntime) -> Result<(), Fail> {
-    let alloc = rt.alloc();
-    let mut library = MemLibrary::new(alloc, two_files(alloc)?, Vec::new(alloc));
-    assert!(rt; matches!(library.get(alloc, "b", 1), Fetched::Absent));
-    assert_eq!(rt; library.files().len(), 2);
-    assert_eq!(rt; library.asked().len(), 1);
-    assert_eq!(rt;
-        library.asked().first().map(|name| name.items()),
-        Some(b"b".as_slice())
-    );
-    Ok(())
-}

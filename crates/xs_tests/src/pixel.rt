@@ -2,10 +2,7 @@
 
 use std::alloc::{AllocError, AllocFailed};
 use std::test::Fail;
-use xs_pixel::{
-    List, Memory, Op, Pixel, Style, add, apply, matte_in, matte_out, max, min, mul255, mult, over,
-    sub,
-};
+use xs_pixel::{List, Memory, Op, Pixel, Style, apply};
 
 /// An operation, its upper and lower pixel, and the result.
 type Vector = (Op, [u8; 4], [u8; 4], [u8; 4]);
@@ -90,26 +87,5 @@ fn lists_lend_and_give_back_their_items(rt: HostRuntime) -> Result<(), Fail> {
     assert_eq!(rt; list.into_items().len(), 3);
     assert_eq!(rt; Memory::from(AllocError), Memory);
     assert_eq!(rt; Memory::from(AllocFailed { value: 7u8 }), Memory);
-    Ok(())
-}
-
-#[test]
-fn each_operation_has_a_function(rt: HostRuntime) -> Result<(), Fail> {
-    let u = Pixel::new(100, 0, 0, 200).ok_or("no pixel")?;
-    let d = Pixel::from_bytes([50, 60, 0, 100]);
-    let results = [
-        over(u, d),
-        add(u, d),
-        sub(u, d),
-        mult(u, d),
-        min(u, d),
-        max(u, d),
-        matte_in(u, d),
-        matte_out(u, d),
-    ];
-    for (result, (op, _, _, wanted)) in results.into_iter().zip(VECTORS) {
-        assert_eq!(rt; result.to_bytes(), wanted, "{op:?}");
-    }
-    assert_eq!(rt; mul255(200, 100), 78);
     Ok(())
 }

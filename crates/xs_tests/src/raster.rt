@@ -25,17 +25,3 @@ fn pastes_the_common_part(rt: HostRuntime) -> Result<(), Fail> {
     assert_eq!(rt; shared.tile().raster().bytes(), [9, 0, 0, 9].as_slice());
     Ok(())
 }
-
-#[test]
-fn rows_are_put_and_read(rt: HostRuntime) -> Result<(), Fail> {
-    let rect = Rect::new(-1, 5, 3, 2).ok_or("in range")?;
-    let mut raster = Raster::clear(rt.alloc(), rect)?;
-    raster.put_row(0, 6, &[1, 2, 3, 4, 5, 6, 7, 8]);
-    assert_eq!(rt;
-        raster.row(6),
-        [0, 0, 0, 0, 1, 2, 3, 4, 5, 6, 7, 8].as_slice()
-    );
-    assert_eq!(rt; raster.pixel(1, 6).to_bytes(), [5, 6, 7, 8]);
-    assert!(rt; raster.rect() == rect);
-    Ok(())
-}

@@ -1,7 +1,6 @@
 use std::alloc::Global;
 use std::marker::Brand;
 use std::test::Fail;
-use xs_cm32::Cm32;
 use xs_palette::Palette;
 use xs_pixel::{List, Pixel, Style};
 use xs_raster::Raster;
@@ -108,10 +107,6 @@ fn shows_a_held_drawing(rt: HostRuntime) -> Result<(), Fail> {
     drawings.set(1, drawing, Some(0));
     assert_eq!(rt; Some(drawings.pixel(1, -1, 5)), Pixel::new(200, 0, 0, 255));
     assert_eq!(rt; drawings.pixel(1, 0, 5), Pixel::CLEAR);
-    assert_eq!(rt;
-        drawings.palette(1).map(|p| p.style(1)),
-        Pixel::new(200, 0, 0, 255)
-    );
     Ok(())
 }
 
@@ -124,34 +119,5 @@ fn writes_a_frame(rt: HostRuntime) -> Result<(), Fail> {
         frame_bytes(rt.alloc(), &Raster::from_bytes(dot, red))?.as_slice(),
         b"XFR1\x01\0\0\0\x01\0\0\0\x09\0\0\x09".as_slice()
     );
-    Ok(())
-}
-
-#[test]
-fn a_removed_drawing_is_gone(rt: HostRuntime) -> Result<(), Fail> {
-    let mut drawings = Drawings::<Brand>::new(rt.alloc(), 2, List::of(Vec::new(rt.alloc())))?;
-    let pixel = [10u8, 20, 30, 255].to_vec(rt.alloc())?;
-    let drawing = Drawing::new(-1, 5, 1, 1, RawKind::Colour, List::of(pixel)).ok_or("a drawing")?;
-    drawings.set(1, drawing, None);
-    assert_eq!(rt;
-        drawings.get(1).map(|g| g.pixel(-1, 5)),
-        Pixel::new(10, 20, 30, 255)
-    );
-    assert!(rt; drawings.find(0).is_none());
-    assert!(rt; drawings.find(1).is_some());
-    drawings.remove(1);
-    assert!(rt; drawings.get(1).is_none());
-    Ok(())
-}
-
-#[test]
-fn a_drawing_tells_its_fields(rt: HostRuntime) -> Result<(), Fail> {
-    let words = [255u8, 1, 0, 0, 0, 2, 48, 0].to_vec(rt.alloc())?;
-    let drawing = Drawing::new(-7, 5, 1, 2, RawKind::Cm32, List::of(words)).ok_or("a drawing")?;
-    assert_eq!(rt; (drawing.x0(), drawing.y0()), (-7, 5));
-    assert_eq!(rt; (drawing.w(), drawing.h()), (1, 2));
-    assert_eq!(rt; drawing.kind(), RawKind::Cm32);
-    assert_eq!(rt; drawing.word(-7, 6), Some(Cm32(0x0030_0200)));
-    assert_eq!(rt; drawing.word(-7, 7), None);
     Ok(())
 }

@@ -1,11 +1,10 @@
-//! Places of a peg with line keys, which stand in any order, and what a sheet shows.
+//! Places of a peg with line keys, which stand in any order.
 
-use crate::scenes::{OF_EACH_KIND, good_scene};
 use std::alloc::Global;
 use std::test::Fail;
 use xs_pixel::{List, Memory};
-use xs_scene::{Peg, PegKey, Seen};
-use xs_sheet::{cell, own_offset, place};
+use xs_scene::{Peg, PegKey};
+use xs_sheet::own_offset;
 
 fn peg(alloc: Global, keys: &[PegKey]) -> Result<Option<Peg>, Memory> {
     Ok(Peg::new(None, List::of(Vec::from_slice(alloc, keys)?)))
@@ -28,18 +27,5 @@ fn line_keys_move_a_peg_and_round_down(rt: HostRuntime) -> Result<(), Fail> {
         assert_eq!(rt; own_offset(&one, row), place, "at row {row}");
         assert_eq!(rt; own_offset(&other, row), place, "at row {row}");
     }
-    Ok(())
-}
-
-#[test]
-fn a_sheet_tells_cells_and_places(rt: HostRuntime) -> Result<(), Fail> {
-    let good = good_scene(rt.alloc(), OF_EACH_KIND)?;
-    good.scene();
-    let sheet = good.sheet(0);
-    let second = Seen::Drawing { level: 1, index: 1 };
-    assert_eq!(rt; cell(sheet, 1, 2), second);
-    assert_eq!(rt; cell(sheet, 1, 4), Seen::Row { sheet: 1, row: 8 });
-    assert_eq!(rt; cell(sheet, 1, 5), Seen::Empty);
-    assert_eq!(rt; place(sheet, Some(1), 3), (15, 21));
     Ok(())
 }

@@ -112,12 +112,3 @@ fn a_palette_comes_back_by_its_number(rt: HostRuntime) -> Result<(), Fail> {
     assert_eq!(rt; tints.palette(number).style(1).to_bytes(), [0, 255, 0, 255]);
     Ok(())
 }
-
-#[test]
-fn a_filter_tells_what_it_drops(rt: HostRuntime) -> Result<(), Fail> {
-    let dropped = filter(rt.alloc(), false)?;
-    let kept = filter(rt.alloc(), true)?;
-    assert!(rt; dropped.has(3) && !dropped.has(2));
-    assert!(rt; !kept.has(3) && kept.has(2));
-    Ok(())
-}
