@@ -14,9 +14,10 @@ use Rattle.xs_scene.specs.declared.node.Node.TheVariants.{Pair, Card, Shuffle, B
 use Rattle.xs_scene.specs.Records.{SheetRecord, ColumnRecord, ExposureRecord, PegRecord}
 use Rattle.xs_meaning.specs.Places.{no_peg, peg_at}
 use Rattle.xs_meaning.specs.Walk.{no_sheet, sheet_at}
+use Rattle.xs_meaning.specs.Inputs.{nodes_of, inputs_of}
 use Rattle.xs_meaning.specs.Ends.{InputsHave, NodesEnd, ShownHas, SheetsEnd, PegsEnd}
 use Rattle.xs_graph.specs.Paths.{successors, has_chain}
-use Rattle.xs_check.specs.Links.{parent_links, node_in, nodes_in, input_links, sheet_in, sheets_in, sheet_links}
+use Rattle.xs_check.specs.Links.{parent_links, input_links, sheet_in, sheets_in, sheet_links}
 
 -- ---- chains that end
 
@@ -78,14 +79,14 @@ sheets_end sheets (suc d) k h =
 
 -- ---- nodes
 
-ref_has : (P : Ref → Type 0) (target : Ref) → ((c : ℕ) → P (ToColumn c)) → ((n : ℕ) → Contains (node_in target) n → P (ToNode n)) → P target
+ref_has : (P : Ref → Type 0) (target : Ref) → ((c : ℕ) → P (ToColumn c)) → ((n : ℕ) → Contains (nodes_of target) n → P (ToNode n)) → P target
 ref_has P (ToColumn c) columns nodes = columns c
 ref_has P (ToNode n) columns nodes = nodes n (0, omega arith, refl)
 
-inputs_have : (P : Ref → Type 0) (node : Node) → ((c : ℕ) → P (ToColumn c)) → ((n : ℕ) → Contains (nodes_in node) n → P (ToNode n)) → InputsHave P (Some node)
+inputs_have : (P : Ref → Type 0) (node : Node) → ((c : ℕ) → P (ToColumn c)) → ((n : ℕ) → Contains (inputs_of node) n → P (ToNode n)) → InputsHave P (Some node)
 inputs_have P (Pair op first second) columns nodes = (
-  ref_has P first columns (λ n c. nodes n (Contains-append_left (node_in first) (node_in second) n c)),
-  ref_has P second columns (λ n c. nodes n (Contains-append_right (node_in first) (node_in second) n c)),
+  ref_has P first columns (λ n c. nodes n (Contains-append_left (nodes_of first) (nodes_of second) n c)),
+  ref_has P second columns (λ n c. nodes n (Contains-append_right (nodes_of first) (nodes_of second) n c)),
 )
 inputs_have P (Card style) columns nodes = tt
 inputs_have P (Shuffle input list) columns nodes = ref_has P input columns nodes
@@ -93,7 +94,7 @@ inputs_have P (Blur input radius) columns nodes = ref_has P input columns nodes
 inputs_have P (Keep input styles) columns nodes = ref_has P input columns nodes
 inputs_have P (Delete input styles) columns nodes = ref_has P input columns nodes
 
-inputs_at : (P : Ref → Type 0) (list : List Node) (i : ℕ) → ((c : ℕ) → P (ToColumn c)) → ((n : ℕ) → Contains (get_or (map nodes_in list) i []) n → P (ToNode n)) → InputsHave P (slice_get list i)
+inputs_at : (P : Ref → Type 0) (list : List Node) (i : ℕ) → ((c : ℕ) → P (ToColumn c)) → ((n : ℕ) → Contains (get_or (map inputs_of list) i []) n → P (ToNode n)) → InputsHave P (slice_get list i)
 inputs_at P [] i columns nodes = tt
 inputs_at P (node ∷ list) zero columns nodes = inputs_have P node columns nodes
 inputs_at P (node ∷ list) (suc i) columns nodes = inputs_at P list i columns nodes

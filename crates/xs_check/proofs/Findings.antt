@@ -1,4 +1,4 @@
-use Rattle.std.proofs.Common.{◌≡◌, ◌<◌, ◌≤◌, ◌+◌, ℕ, zero, suc, true, false, List, [], ◌∷◌, Option, Some, None, Result, Ok, Err, inl, inr, length, drop, get_or, is_err, refl, sym, subst, arith, option_map}
+use Rattle.std.proofs.Common.{◌≡◌, ◌<◌, ◌≤◌, ◌+◌, ℕ, suc, true, false, List, [], ◌∷◌, Option, Some, None, Result, Ok, Err, inl, inr, length, drop, get_or, is_err, refl, sym, subst, arith, option_map}
 use Rattle.std.proofs.Math.Seq.{drop-cons}
 use Rattle.std.proofs.Math.Numerals.{add-one}
 use Rattle.xs_json.specs.declared.fault.SceneFault.{SceneFault}
@@ -6,7 +6,6 @@ use Rattle.xs_json.specs.declared.fault.FieldFault.{FieldFault}
 use Rattle.xs_json.specs.declared.fault.FieldFault.TheVariants as errors
 use Rattle.xs_json.specs.declared.code.SceneCode.{SceneCode}
 use Rattle.xs_json.specs.Paths.{index_at}
-use Rattle.xs_json.specs.Reading.{Tells}
 use Rattle.std.proofs.lemmas.Bool.{cases_lt}
 use Rattle.xs_check.specs.Finding.{Finding, Finds, Unless, Then, Each, TellsFirst}
 use Rattle.xs_graph.specs.First.{IsFirstWithout}
@@ -81,18 +80,6 @@ pub first_told : {A : Type 0} (P : ℕ → Type 0) (code : SceneCode) (at : List
 first_told P code at xs first (Ok u) h told = first_found P code (index_at at) xs first h None (rw told refl)
 first_told P code at xs first (Err errors.Memory) h told = tt
 first_told P code at xs first (Err (errors.Fault fault)) h (i, is, fault_is) = first_found P code (index_at at) xs first h (Some fault) (rw (is, fault_is) refl)
-
--- the fault at an element without P
-pub told_fails : (P : Type 0) (code : SceneCode) (at : List ℕ) (e : FieldFault) → (P → ⊥) → Tells code at e → Finds {X = Unit {0}} (Err e) (Unless code at P)
-told_fails P code at errors.Memory bad told = tt
-told_fails P code at (errors.Fault fault) bad told = (bad, told)
-
--- past its elements a list finds nothing
-pub each_done : {A : Type 0} (F : ℕ → A → Finding) (n : ℕ) (xs : List A) (i : ℕ) → length xs ≤ i → Each F n (drop i xs) None
-each_done F n [] zero h = refl
-each_done F n [] (suc i) h = refl
-each_done F n (x ∷ xs) zero h = absurd (omega arith)
-each_done F n (x ∷ xs) (suc i) h = each_done F n xs i (omega arith)
 
 -- a check of each element finds what another one does, where the two agree on each
 pub each_cover : {A : Type 0} (F G : ℕ → A → Finding) (d : A) (xs : List A) (k : ℕ)

@@ -8,7 +8,7 @@ use Rattle.xs_json.specs.declared.fault.FieldFault.{FieldFault}
 use Rattle.xs_json.specs.declared.fault.FieldFault.TheVariants as errors
 use Rattle.xs_check.specs.Finding.{Finding, Finds, Unless, Each, TellsFirst}
 use Rattle.xs_check.specs.Passes.{EachApart}
-use Rattle.xs_check.specs.Standing.{IsFirstShared}
+use Rattle.xs_check.specs.Apart.{IsFirstShared}
 use Rattle.xs_graph.specs.First.{IsFirstWithout}
 use Rattle.xs_check.proofs.Findings.{each_cover, first_told}
 use Rattle.xs_check.proofs.Pairs.{AllPairs-take}

@@ -18,11 +18,12 @@ use Rattle.xs_scene.specs.declared.node.Node.TheVariants.{Pair, Card, Shuffle, B
 use Rattle.xs_scene.specs.InRange.{IsInRange}
 use Rattle.xs_scene.specs.Records.{SceneRecord, SheetRecord, ColumnRecord, ExposureRecord, PegRecord, LevelRecord, ColoursRecord, StyleKeyRecord}
 use Rattle.xs_meaning.specs.Walk.{no_sheet, sheet_at}
+use Rattle.xs_meaning.specs.Inputs.{nodes_of, inputs_of}
 use Rattle.xs_meaning.specs.Ends.{InputsHave, NodesEnd, SheetsEnd, PegsEnd}
 use Rattle.xs_check.specs.Finding.{Finding, Unless, Each, EachAt, IfThere}
 use Rattle.xs_index.specs.Apart.{AreApart, DifferInRow, DifferInRowOrStyle}
 use Rattle.xs_check.specs.Good.{IsGood, IsGoodSheet, IsGoodColumn, IsGoodNode, IsGoodPeg, IsGoodPalette, HasFewEntries, HasPalette, IsThere, Targets, files_of}
-use Rattle.xs_check.specs.Links.{parent_links, input_links, node_in, nodes_in, sheet_links, sheets_in}
+use Rattle.xs_check.specs.Links.{parent_links, input_links, sheet_links, sheets_in}
 use Rattle.xs_check.specs.Passes as pass
 use Rattle.xs_check.specs.Passes.{EachApart, FilesApart, NoLongChains, NoCycles, CellReferences, LevelReference}
 use Rattle.xs_graph.specs.Paths.{Links, successors, LiesOnCycle, HasChain, has_chain}
@@ -216,14 +217,14 @@ module _ (s : SceneRecord) (k : SheetRecord) where
 -- ---- ends
 
 -- nodes name nodes of their sheet
-target_inside : (k : SheetRecord) (target : Ref) (n : ℕ) → Targets k target → Contains (node_in target) n → n < length k.nodes
+target_inside : (k : SheetRecord) (target : Ref) (n : ℕ) → Targets k target → Contains (nodes_of target) n → n < length k.nodes
 target_inside k (ToColumn c) n there (i, below, is) = absurd (omega arith)
 target_inside k (ToNode m) n there (zero, below, is) = subst (λ (x : ℕ). x < length k.nodes) is there
 target_inside k (ToNode m) n there (suc i, below, is) = absurd (omega arith)
 
-input_inside : (k : SheetRecord) (node : Node) (n : ℕ) → InputsHave (Targets k) (Some node) → Contains (nodes_in node) n → n < length k.nodes
+input_inside : (k : SheetRecord) (node : Node) (n : ℕ) → InputsHave (Targets k) (Some node) → Contains (inputs_of node) n → n < length k.nodes
 input_inside k (Pair op first second) n there c =
-    elim (Contains-append_cases (node_in first) (node_in second) n c)
+    elim (Contains-append_cases (nodes_of first) (nodes_of second) n c)
     [ inl a ↦ target_inside k first n there.0 a | inr b ↦ target_inside k second n there.1 b ]
 input_inside k (Card style) n there (i, below, is) = absurd (omega arith)
 input_inside k (Shuffle input list) n there c = target_inside k input n there c
@@ -231,7 +232,7 @@ input_inside k (Blur input radius) n there c = target_inside k input n there c
 input_inside k (Keep input styles) n there c = target_inside k input n there c
 input_inside k (Delete input styles) n there c = target_inside k input n there c
 
-named_inside : (k : SheetRecord) (list : List Node) → All (IsGoodNode k) list → (i n : ℕ) → Contains (get_or (map nodes_in list) i []) n → n < length k.nodes
+named_inside : (k : SheetRecord) (list : List Node) → All (IsGoodNode k) list → (i n : ℕ) → Contains (get_or (map inputs_of list) i []) n → n < length k.nodes
 named_inside k [] good i n (j, below, is) = absurd (omega arith)
 named_inside k (node ∷ list) good zero n c = input_inside k node n (good 0 node (omega arith)).inputs c
 named_inside k (node ∷ list) good (suc i) n c = named_inside k list (λ j d below. good (suc j) d (omega arith)) i n c
@@ -239,7 +240,7 @@ named_inside k (node ∷ list) good (suc i) n c = named_inside k list (λ j d be
 sheet_nodes_end : ChainsTold → ChainsShort → (k : SheetRecord) (at : List ℕ) → All (IsGoodNode k) k.nodes → pass.SheetNodeCycles at k None
     → (n : ℕ) → n < length k.nodes → NodesEnd k (length k.nodes) (ToNode n)
 sheet_nodes_end told short k at good none n below =
-    let links_length : length (input_links k) ≡ length k.nodes = length-map k.nodes nodes_in in
+    let links_length : length (input_links k) ≡ length k.nodes = length-map k.nodes inputs_of in
     nodes_end k (length k.nodes) n
     (chain_missing told (input_links k) (length k.nodes) n
     (λ chain.

@@ -1,6 +1,6 @@
 pub mod Findings
 pub mod Pairs
-pub mod Standings
+pub mod Neighbours
 pub mod Endings
 pub mod Goods
 pub mod Repeats

@@ -1,6 +1,6 @@
-use Rattle.std.proofs.Common.{◌≡◌, ◌≢◌, ◌<◌, ◌⊎◌, ℕ, List, [], ◌∷◌, AllPairs, length, map, get_or, take, refl, sym, subst, inl, inr, arith}
+use Rattle.std.proofs.Common.{◌≡◌, ◌≢◌, ◌<◌, ◌⊎◌, ℕ, List, AllPairs, length, get_or, take, refl, sym, subst, inl, inr, arith}
 use Rattle.std.proofs.lemmas.Bool.{cases_lt, cases_eq}
-use Rattle.std.proofs.lemmas.List.{get_or-map, get_or-take, length-map, length-take}
+use Rattle.std.proofs.lemmas.List.{get_or-take, length-take}
 use Rattle.std.proofs.lemmas.List.Edits.{swapped_from_swap, length-swap}
 use Rattle.std.proofs.lemmas.List.Sorted.{IsPermutation-keeps}
 use Rattle.std.specs.List.{swap}
@@ -49,7 +49,7 @@ module _ {X : Type 0} (R : X → X → Type 0) (back : (a b : X) → R a b → R
       let two = IsPermutation-keeps xs AnyTwo (any_two xs h) (λ l a b a_below b_below. any_two_swapped l a b a_below b_below) ys moved in
       λ i j d less below. two i j d (omega arith) (omega arith) below
 
--- ---- pairs of a front, and of a list made from another one
+-- ---- pairs of a front
 
 pub AllPairs-take : {X : Type 0} (R : X → X → Type 0) (n : ℕ) (xs : List X) → AllPairs R xs → AllPairs R (take n xs)
 AllPairs-take R n xs h i j d less below =
@@ -57,20 +57,3 @@ AllPairs-take R n xs h i j d less below =
     let in_front : j < n = omega arith in
     let in_list : j < length xs = omega arith in
     rw (get_or-take n xs i d (omega arith), get_or-take n xs j d in_front) (h i j d less in_list)
-
-module _ {X Y : Type 0} (f : X → Y) (R : X → X → Type 0) (S : Y → Y → Type 0) where
-  pub AllPairs-map : ((a b : X) → R a b → S (f a) (f b)) → (xs : List X) → AllPairs R xs → AllPairs S (map f xs)
-  AllPairs-map told [] h = λ i j d less below. absurd (omega arith)
-  AllPairs-map told (x ∷ xs) h =
-      λ i j d less below.
-      let j_below : j < length (x ∷ xs) = rw (← length-map (x ∷ xs) f) below in
-      let i_below : i < length (x ∷ xs) = omega arith in
-      rw (get_or-map f (x ∷ xs) i x d i_below, get_or-map f (x ∷ xs) j x d j_below) (told _ _ (h i j x less j_below))
-
-  pub AllPairs-from_map : ((a b : X) → S (f a) (f b) → R a b) → (xs : List X) → AllPairs S (map f xs) → AllPairs R xs
-  AllPairs-from_map told xs h i j d less below =
-      let i_below : i < length xs = omega arith in
-      told _ _
-      (subst (λ (y : Y). S y (f (get_or xs j d))) (get_or-map f xs i d (f d) i_below)
-      (subst (λ (y : Y). S (get_or (map f xs) i (f d)) y) (get_or-map f xs j d (f d) below)
-      (h i j (f d) less (rw (length-map xs f) below))))

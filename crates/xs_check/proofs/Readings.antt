@@ -1,21 +1,17 @@
 -- What is told of the lists of a checked scene holds also of those that it lacks
-use Rattle.std.proofs.Common.{◌≡◌, ◌+◌, ◌-◌, ℕ, zero, suc, Option, Some, None, IfSome, All, get_or, AllPairs, find, pos, ◌+ℤ◌, refl, sym, ap, ◌∙◌, arith}
-use Rattle.std.specs.Option.{option_map_or}
-use Rattle.std.proofs.lemmas.Int.{ints}
-use mathlib.Core.Path.{ap₂}
+use Rattle.std.proofs.Common.{◌≡◌, ◌-◌, ℕ, zero, suc, Option, Some, None, All, get_or, AllPairs, Contains, MatchOption, refl, sym, subst, ap, arith}
+use Rattle.std.proofs.lemmas.List.Elements.{All-contains}
 use Rattle.xs_scene.specs.declared.column.Shown.{Shown}
 use Rattle.xs_scene.specs.declared.column.Shown.TheVariants.{Drawing, Sheet}
 use Rattle.xs_scene.specs.declared.seen.Seen.TheVariants.{Empty}
 use Rattle.xs_scene.specs.Records.{SceneRecord, SheetRecord, ColumnRecord, PegRecord, ColoursRecord, ExposureRecord}
 use Rattle.xs_scene.specs.Ranges.{IsExposure, IsShown}
-use Rattle.xs_meaning.specs.Cells.{cell_at, covers, shown_after}
+use Rattle.xs_meaning.specs.Cells.{cell_at, shown_after}
 use Rattle.xs_meaning.specs.Drawings.{no_colours}
 use Rattle.xs_meaning.specs.Places.{own_offset, place_up, peg_at, no_peg}
-use Rattle.xs_meaning.specs.Points.{Point, point, origin, plus}
+use Rattle.xs_meaning.specs.Points.{origin, plus}
 use Rattle.xs_meaning.specs.Walk.{no_sheet, no_column, sheet_at, column_at}
 use Rattle.xs_meaning.proofs.Lists.{All-slice_index_or}
-use Rattle.xs_meaning.proofs.Depth.{find-has}
-use Rattle.xs_sheet.proofs.Sums.{IsSum, place_up-some}
 use Rattle.xs_index.specs.Apart.{AreApart, DifferInRow, DifferInRowOrStyle}
 use Rattle.xs_check.specs.Good.{IsGood, IsThere}
 use Rattle.xs_check.specs.Readers.{IsSeen}
@@ -29,13 +25,18 @@ shows : (s : SceneRecord) (rows : ℕ) (shown : Shown) → IsThere s shown → I
 shows s rows (Drawing level index) there range = there
 shows s rows (Sheet sheet start) there range = (there, omega (arith, range.1.0))
 
-column_there : (s : SceneRecord) (column : ColumnRecord) (row : ℕ) → All (Shows s) column.cells → IsSeen s (cell_at column row)
-unfolding cell_at
-column_there s column row all = at (find (covers row) column.cells) (find-has (Shows s) (covers row) column.cells all)
-  where
-    at : (e : Option ExposureRecord) → IfSome e (Shows s) → IsSeen s (option_map_or (λ e. shown_after (row - e.from) e.shown) e Empty)
-    at None has = tt
-    at (Some e) has = shows s (row - e.from) e.shown has.0 has.1.shown
+-- what a column shows at a row by one of its cells, or by none
+abbrev IsOwn : ColumnRecord → ℕ → Option ExposureRecord → Type 0
+IsOwn column row found =
+    MatchOption found (cell_at column row ≡ Empty)
+    (λ e. Contains column.cells e × (cell_at column row ≡ shown_after (row - e.from) e.shown))
+
+column_there : (s : SceneRecord) (column : ColumnRecord) (row : ℕ) → All (Shows s) column.cells
+    → (found : Option ExposureRecord) → IsOwn column row found → IsSeen s (cell_at column row)
+column_there s column row all None nothing = subst (IsSeen s) (sym nothing) tt
+column_there s column row all (Some e) (among, is) =
+    let has = All-contains (Shows s) column.cells e all among in
+    subst (IsSeen s) (sym is) (shows s (row - e.from) e.shown has.0 has.1.shown)
 
 -- ---- of each list by its number
 
@@ -46,14 +47,16 @@ module _ (s : SceneRecord) (good : IsGood s) where
       All-slice_index_or P (sheet_at s.sheets k).columns c no_column none
       (All-slice_index_or (λ (k : SheetRecord). All P k.columns) s.sheets k no_sheet (λ i d below. absurd (omega arith)) all)
 
-  pub cell_there : (k c row : ℕ) → IsSeen s (cell_at (column_at (sheet_at s.sheets k) c) row)
-  cell_there k c row =
+  pub cell_there : (k c row : ℕ) (found : Option ExposureRecord) → IsOwn (column_at (sheet_at s.sheets k) c) row found
+      → IsSeen s (cell_at (column_at (sheet_at s.sheets k) c) row)
+  cell_there k c row found own =
       column_there s (column_at (sheet_at s.sheets k) c) row
       (of_column (λ column. All (Shows s) column.cells) (λ i d below. absurd (omega arith))
       (λ i d below j column inside m e within. (
         ((good.sheets i d below).columns j column inside).shown m e within,
         ((good.ranges.sheets i d below).columns j column inside).cells m e within,
       )) k c)
+      found own
 
   pub cells_apart : (k c : ℕ) → AllPairs AreApart (column_at (sheet_at s.sheets k) c).cells
   cells_apart =
@@ -73,22 +76,16 @@ module _ (s : SceneRecord) (good : IsGood s) where
 
 -- ---- the chain of a peg
 
-pub place_link :
-    (k : SheetRecord) (row number n : ℕ) (own parent : Option ℕ) (at : Point) → own ≡ Some number
-    → at ≡ own_offset (peg_at k number).keys row → parent ≡ (peg_at k number).parent
-    → place_up (n + 1) k own row ≡ plus at (place_up n k parent row)
-place_link k row number n own parent at is offset above =
-    ap (λ o. place_up (n + 1) k o row) is ∙ place_up-some k row number n
-    ∙ ap₂ plus (sym offset) (ap (λ o. place_up n k o row) (sym above))
-
-ended : (n : ℕ) (k : SheetRecord) (row : ℕ) → place_up n k None row ≡ origin
+pub place_up-zero : (k : SheetRecord) (peg : Option ℕ) (row most : ℕ) → most ≡ 0 → origin ≡ place_up most k peg row
 unfolding place_up
-ended zero k row = refl
-ended (suc n) k row = refl
+place_up-zero k peg row zero none = refl
+place_up-zero k peg row (suc n) none = absurd (omega arith)
 
--- at the end of a chain the sum is whole
-pub sum_ends : (taken : ℕ) (k : SheetRecord) (next : Option ℕ) (row : ℕ) (total at : Point) → next ≡ None → IsSum taken k next row total at → at ≡ total
-sum_ends taken k next row total at none sum =
-    ap₂ point (let e : at.x ≡ at.x +ℤ pos 0 = omega (arith, ints) in e) (let e : at.y ≡ at.y +ℤ pos 0 = omega (arith, ints) in e)
-    ∙ ap (plus at) (sym (ended (64 - taken) k row)) ∙ ap (λ o. plus at (place_up (64 - taken) k o row)) (sym none)
-    ∙ sum.1
+pub place_up-step : (k : SheetRecord) (row most : ℕ) (peg : Option ℕ) → (most ≡ 0 → ⊥)
+    → MatchOption peg (origin ≡ place_up most k peg row)
+    (λ i. plus (own_offset (peg_at k i).keys row) (place_up (most - 1) k (peg_at k i).parent row) ≡ place_up most k peg row)
+unfolding place_up
+place_up-step k row zero peg some = absurd (some refl)
+place_up-step k row (suc n) None some = refl
+place_up-step k row (suc n) (Some i) some =
+    ap (λ m. plus (own_offset (peg_at k i).keys row) (place_up m k (peg_at k i).parent row)) (let e : suc n - 1 ≡ n = omega arith in e)

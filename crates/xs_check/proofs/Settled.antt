@@ -1,10 +1,10 @@
 -- What is settled of numbers, of lists and of what holds together.
 use Rattle.std.proofs.Common.{◌≢◌, ◌<◌, ◌≤◌, ℕ, max, List, [], ◌∷◌, All, bytes_eq, inl, inr, arith}
-use Rattle.std.proofs.lemmas.Bool.{cases_lt, cases_eq}
+use Rattle.std.proofs.lemmas.Bool.{cases_lt, cases_eq, cases_Bool}
+use Rattle.std.proofs.lemmas.Bool.Decides.{not_from_Decides}
 use Rattle.std.proofs.lemmas.Slice.Eq.{bytes_eq-Decides}
 use Rattle.std.proofs.lemmas.List.Elements.{All-nil, All-cons, All-head, All-tail}
 use Rattle.xs_graph.specs.Settled.{Settled}
-use Rattle.xs_graph.proofs.Settled.{settled_like, settled_both, settled_test}
 
 pub settled_not : (P : Type 0) → Settled P → Settled (P → ⊥)
 settled_not P (inl p) = inr (λ n. n p)
@@ -60,8 +60,16 @@ settled_apart from to first last =
 pub settled_all : {X : Type 0} (P : X → Type 0) → ((x : X) → Settled (P x)) → (xs : List X) → Settled (All P xs)
 settled_all P each [] = inl (All-nil P)
 settled_all P each (x ∷ xs) =
-    settled_like (P x × All P xs) (All P (x ∷ xs)) (λ h. All-cons P x xs h.0 h.1) (λ h. (All-head P x xs h, All-tail P x xs h))
-    (settled_both (P x) (All P xs) (each x) (settled_all P each xs))
+    elim (each x) [
+      | inr fails ↦ inr (λ all. fails (All-head P x xs all))
+      | inl holds ↦
+          elim (settled_all P each xs)
+          [ inl rest ↦ inl (All-cons P x xs holds rest) | inr fails ↦ inr (λ all. fails (All-tail P x xs all)) ]
+    ]
 
 pub settled_texts_differ : (a b : List ℕ) → Settled (a ≢ b)
-settled_texts_differ a b = settled_not _ (settled_test _ (bytes_eq a b) (bytes_eq-Decides a b))
+settled_texts_differ a b =
+    elim (cases_Bool (bytes_eq a b)) [
+      | inl same ↦ inr (λ differ. differ ((bytes_eq-Decides a b).0 same))
+      | inr other ↦ inl (not_from_Decides (bytes_eq a b) (bytes_eq-Decides a b) other)
+    ]

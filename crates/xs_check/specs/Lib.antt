@@ -1,8 +1,8 @@
 pub mod Finding
 pub mod Codes
 pub mod Links
-pub mod Standing
+pub mod Apart
 pub mod Good
-pub mod Stands
+pub mod ApartTold
 pub mod Passes
 pub mod Readers

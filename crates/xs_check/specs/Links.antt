@@ -1,35 +1,19 @@
 -- What the pegs, the nodes and the sheets of a scene name.
-use Rattle.std.specs.Prelude.{ℕ, List, [], ◌∷◌, ◌++◌, map, flat_map}
+use Rattle.std.specs.Prelude.{ℕ, List, [], ◌∷◌, map, flat_map}
 use Rattle.std.specs.Option.{option_to_list}
 use Rattle.xs_scene.specs.declared.column.Shown.{Shown}
 use Rattle.xs_scene.specs.declared.column.Shown.TheVariants.{Drawing, Sheet}
-use Rattle.xs_scene.specs.declared.node.Ref.{Ref}
-use Rattle.xs_scene.specs.declared.node.Ref.TheVariants.{Column as ToColumn, Node as ToNode}
-use Rattle.xs_scene.specs.declared.node.Node.{Node}
-use Rattle.xs_scene.specs.declared.node.Node.TheVariants.{Pair, Card, Shuffle, Blur, Keep, Delete}
 use Rattle.xs_scene.specs.Records.{SheetRecord}
+use Rattle.xs_meaning.specs.Inputs.{inputs_of}
 use Rattle.xs_graph.specs.Paths.{Links}
 
 -- the parent of each peg
 abbrev pub parent_links : SheetRecord → Links
 parent_links k = map (λ peg. option_to_list peg.parent) k.pegs
 
-abbrev pub node_in : Ref → List ℕ
-node_in (ToColumn c) = []
-node_in (ToNode n) = n ∷ []
-
--- the inputs of a node that are nodes
-abbrev pub nodes_in : Node → List ℕ
-nodes_in (Pair op first second) = node_in first ++ node_in second
-nodes_in (Card style) = []
-nodes_in (Shuffle input list) = node_in input
-nodes_in (Blur input radius) = node_in input
-nodes_in (Keep input styles) = node_in input
-nodes_in (Delete input styles) = node_in input
-
 -- the nodes that each node takes
 abbrev pub input_links : SheetRecord → Links
-input_links k = map nodes_in k.nodes
+input_links k = map inputs_of k.nodes
 
 abbrev pub sheet_in : Shown → List ℕ
 sheet_in (Drawing level index) = []

@@ -3,7 +3,8 @@ ghost use Rattle.std.specs.Prelude.{◌≡◌, ◌<◌, map};
 ghost use Rattle.xs_check.specs.Finding.{Finds};
 ghost use Rattle.xs_check.specs.Passes.{sheets_at, PegCycles, NodeCycles, SheetCycles, LongChains, NoCycles, NoLongChains};
 
-use crate::finding::{Rule, each, tell_first};
+use crate::finding::{Requirement, each, tell_first};
+use crate::limits::{LONGEST_PEG_CHAIN, LONGEST_SHEET_CHAIN};
 use crate::links::{Naming, links_of};
 use std::alloc::Global;
 use xs_graph::{first_long, first_on_cycle};
@@ -43,7 +44,7 @@ fn no_long_chains<T: Naming>(
 #[derive(Drop)]
 struct PegCycle;
 
-impl Rule<Sheet> for PegCycle {
+impl Requirement<Sheet> for PegCycle {
     ghost use Rattle.xs_check.specs.Passes.{SheetPegCycles};
 
     ghost finds = { λ _. SheetPegCycles };
@@ -59,7 +60,7 @@ impl Rule<Sheet> for PegCycle {
 #[derive(Drop)]
 struct NodeCycle;
 
-impl Rule<Sheet> for NodeCycle {
+impl Requirement<Sheet> for NodeCycle {
     ghost use Rattle.xs_check.specs.Passes.{SheetNodeCycles};
 
     ghost finds = { λ _. SheetNodeCycles };
@@ -71,11 +72,11 @@ impl Rule<Sheet> for NodeCycle {
     }
 }
 
-/// The pegs of a sheet at which a chain of more than 64 pegs begins.
+/// The pegs of a sheet at which a chain of more than `LONGEST_PEG_CHAIN` pegs begins.
 #[derive(Drop)]
 struct LongChain;
 
-impl Rule<Sheet> for LongChain {
+impl Requirement<Sheet> for LongChain {
     ghost use Rattle.xs_check.specs.Passes.{SheetLongChains};
 
     ghost finds = { λ _. SheetLongChains };
@@ -83,7 +84,7 @@ impl Rule<Sheet> for LongChain {
     fn look(&self, alloc: Global, item: &Sheet, at: &Place) -> Result<(), FieldFault> {
         let path = at.path(alloc)?;
         let pegs = Place::key(&path, Field::Pegs).path(alloc)?;
-        no_long_chains(alloc, item.pegs.items(), 64, &pegs)
+        no_long_chains(alloc, item.pegs.items(), LONGEST_PEG_CHAIN, &pegs)
     }
 }
 
@@ -111,12 +112,12 @@ pub fn sheet_cycles(alloc: Global, scene: &Scene, sheets: &Path) -> Result<(), F
     no_cycles(alloc, scene.sheets.items(), SceneCode::SheetCycle, sheets)
 }
 
-/// The first peg at which a chain of more than 64 pegs begins; without one, the first sheet at which a
-/// chain of more than 16 nested sheets begins.
+/// The first peg at which a chain of more than `LONGEST_PEG_CHAIN` pegs begins; without one, the first sheet
+/// at which a chain of more than `LONGEST_SHEET_CHAIN` nested sheets begins.
 pub fn long_chains(alloc: Global, scene: &Scene, sheets: &Path) -> Result<(), FieldFault>
     requires { sheets.now ≡ sheets_at }
     ensures { Finds result (LongChains scene.now) }
 {
     each(alloc, &LongChain, scene.sheets.items(), sheets)?;
-    no_long_chains(alloc, scene.sheets.items(), 16, sheets)
+    no_long_chains(alloc, scene.sheets.items(), LONGEST_SHEET_CHAIN, sheets)
 }

@@ -1,3 +1,4 @@
+//! What checking finds: the first fault, in the order of the elements of lists.
 ghost use Rattle.std.specs.Prelude.{ℕ};
 ghost use Rattle.std.specs.Prelude.{List as Items};
 ghost use Rattle.xs_check.specs.Finding.{Finding, Finds, EachAt, TellsFirst};
@@ -7,8 +8,8 @@ ghost use Rattle.xs_json.specs.Reading.{Tells};
 use std::alloc::Global;
 use xs_json::{FieldFault, Path, Place, SceneCode};
 
-/// What is looked for in each element of a list.
-pub trait Rule<T> {
+/// What is required of each element of a list, and told by its first fault.
+pub trait Requirement<T> {
     /// What is found in an element at a path.
     ghost finds: { Self → Items ℕ → T → Finding };
 
@@ -19,19 +20,19 @@ pub trait Rule<T> {
 
 /// The first fault of the elements of the list at `at`, in their order.
 #[tactic(auto, unfolding(crate::specs::Finding::EachAt))]
-pub fn each<T, R: Rule<T>>(
+pub fn each<T, R: Requirement<T>>(
     alloc: Global,
-    rule: &R,
+    required: &R,
     items: &[T],
     at: &Path,
 ) -> Result<(), FieldFault>
-    ensures { Finds result (EachAt at.now (R.finds rule.now) items.now) }
+    ensures { Finds result (EachAt at.now (R.finds required.now) items.now) }
 {
     for (i, item) in items.iter().enumerate() {
         let Ok(i) = u32::try_from(i) else {
             return Err(FieldFault::Memory);
         };
-        let looked = rule.look(alloc, item, &Place::item(at, i));
+        let looked = required.look(alloc, item, &Place::item(at, i));
         if looked.is_err() {
             return looked;
         }

@@ -2,17 +2,18 @@
 //! to itself, and every size is within its limit. What passes is a `GoodScene`.
 #![tactic(auto)]
 
-pub mod cycles;
-pub mod files;
-pub mod finding;
-pub mod good;
+mod apart;
+mod cycles;
+mod files;
+mod finding;
+mod good;
 pub mod laws;
-pub mod links;
+mod limits;
+mod links;
 mod numbers;
-pub mod overlaps;
+mod overlaps;
 mod readers;
-pub mod references;
-pub mod sizes;
-pub mod standing;
+mod references;
+mod sizes;
 
 pub use good::{GoodScene, check};

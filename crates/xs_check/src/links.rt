@@ -1,7 +1,8 @@
 //! What pegs, nodes and sheets name of their own kind.
 ghost use Rattle.std.specs.Prelude.{◌≡◌, ◌++◌, ℕ, IfOk, OnOk, map, flat_map};
 ghost use Rattle.std.specs.Prelude.{List as Items};
-ghost use Rattle.xs_check.specs.Links.{node_in, sheet_in};
+ghost use Rattle.xs_meaning.specs.Inputs.{nodes_of};
+ghost use Rattle.xs_check.specs.Links.{sheet_in};
 
 use std::alloc::{AllocError, Global};
 use xs_pixel::List;
@@ -43,7 +44,7 @@ impl Naming for Peg {
 
 /// Adds the node that a reference names.
 fn add_node(named: &mut Vec<u32>, target: Ref) -> Result<(), AllocError>
-    ensures { OnOk result (named.new.items ≡ named.old.items ++ node_in target) }
+    ensures { OnOk result (named.new.items ≡ named.old.items ++ nodes_of target) }
 {
     if let Ref::Node(number) = target {
         named.push(number)?;
@@ -52,9 +53,9 @@ fn add_node(named: &mut Vec<u32>, target: Ref) -> Result<(), AllocError>
 }
 
 impl Naming for Node {
-    ghost use Rattle.xs_check.specs.Links.{nodes_in};
+    ghost use Rattle.xs_meaning.specs.Inputs.{inputs_of};
 
-    ghost named = { nodes_in };
+    ghost named = { inputs_of };
 
     fn named(&self, alloc: Global) -> Result<Vec<u32>, AllocError> {
         let mut named = Vec::new(alloc);

@@ -1,5 +1,5 @@
 //! What a checked scene says of one row, and its drawings by their numbers.
-ghost use Rattle.std.specs.Prelude.{◌≡◌, ◌<◌, [], Some, length, slice_get, slice_index_or};
+ghost use Rattle.std.specs.Prelude.{◌≡◌, ◌<◌, ◌≤◌, ◌*◌, [], Some, length, slice_get, slice_index_or};
 ghost use Rattle.std.specs.Option.{option_map};
 ghost use Rattle.xs_scene.specs.Ranges.{IsOffset};
 ghost use Rattle.xs_meaning.specs.Bounds.{IsWithin};
@@ -10,18 +10,18 @@ ghost use Rattle.xs_meaning.specs.Palettes.{keyed as keyed_style};
 ghost use Rattle.xs_meaning.specs.Palettes.{style_at as pixel_at};
 ghost use Rattle.xs_meaning.specs.Places.{peg_at, place_of};
 ghost use Rattle.xs_meaning.specs.Places.{own_offset as offset_at};
+ghost use Rattle.xs_meaning.specs.Places.{place_up as place_as_far};
 ghost use Rattle.xs_meaning.specs.Points.{point};
 ghost use Rattle.xs_meaning.specs.Walk.{sheet_at, column_at};
 ghost use Rattle.xs_check.specs.Good.{IsGood, IsThere, HasPalette, files_of};
 ghost use Rattle.xs_check.specs.Readers.{IsSeen, IsSpot};
 
 use crate::good::GoodScene;
+use crate::limits::LONGEST_PEG_CHAIN;
 use xs_index::{key_in, offset_in, seen_in};
+use xs_meaning::rules::cells_are_chosen_by_row;
 use xs_pixel::{Pixel, Style};
 use xs_scene::{Kind, Level, Name, Seen, Shown, StyleKey};
-
-/// How many pegs a chain of parents can have.
-const LONGEST_CHAIN: u32 = 64;
 
 impl GoodScene {
     /// What a column of a sheet shows at a row. A sheet or a column that the scene lacks shows nothing.
@@ -29,6 +29,7 @@ impl GoodScene {
         ensures value { result ≡ cell_at (column_at (sheet_at self.now.sheets sheet) column) row }
         ensures there { IsSeen self.now result }
     {
+        cells_are_chosen_by_row();
         seen_in(self.index.cells(sheet, column), row)
     }
 
@@ -47,19 +48,25 @@ impl GoodScene {
         ensures value { point result.0 result.1 ≡ place_of (sheet_at self.now.sheets sheet) peg row }
         ensures near { IsWithin 4194304 (point result.0 result.1) }
     {
-        let mut next = peg;
-        let mut x = 0;
-        let mut y = 0;
-        for _taken in 0..LONGEST_CHAIN {
-            let Some(number) = next else {
-                return (x, y);
-            };
-            let (across, up) = self.own_offset(sheet, number, row);
-            x += across;
-            y += up;
-            next = self.parent(sheet, number);
+        self.place_up(sheet, peg, row, LONGEST_PEG_CHAIN)
+    }
+
+    /// The place of a peg, as far as so many pegs up.
+    fn place_up(&self, sheet: u32, peg: Option<u32>, row: u32, most: u32) -> (i32, i32)
+        requires { most ≤ 64 }
+        ensures value { point result.0 result.1 ≡ place_as_far most (sheet_at self.now.sheets sheet) peg row }
+        ensures near { IsWithin (65536 * most) (point result.0 result.1) }
+    {
+        if most == 0 {
+            return (0, 0);
         }
-        (x, y)
+        let Some(number) = peg else {
+            return (0, 0);
+        };
+        let (x, y) = self.own_offset(sheet, number, row);
+        let parent = self.parent(sheet, number);
+        let (across, up) = self.place_up(sheet, parent, row, most - 1);
+        (x + across, y + up)
     }
 
     /// The pixel of a style of a palette at a row, where no filter drops it. Style 0 is clear, and so is
@@ -76,7 +83,7 @@ impl GoodScene {
         keyed(self.key(palette, row, style), written).pixel()
     }
 
-    /// How many drawings the scene has.
+    /// How many drawings the levels of the scene have together.
     pub fn drawings(&self) -> u32
         ensures { result ≡ length (files_of self.now.levels) }
     {

@@ -1,3 +1,4 @@
+//! Numbers that name nothing.
 ghost use Rattle.std.specs.Prelude.{◌<◌, length};
 ghost use Rattle.xs_check.specs.Finding.{Finds, Unless, Then, EachAt, IfThere};
 ghost use Rattle.xs_check.specs.Good.{level_at};
@@ -5,7 +6,7 @@ ghost use Rattle.xs_check.specs.Passes.{Names, RefReference, References};
 ghost use Rattle.xs_json.specs.Objects.{path_of};
 ghost use Rattle.xs_meaning.specs.Walk.{sheet_at};
 
-use crate::finding::{Rule, each};
+use crate::finding::{Requirement, each};
 use std::alloc::Global;
 use xs_json::{Field, FieldFault, Path, Place, SceneCode};
 use xs_scene::{
@@ -51,12 +52,12 @@ struct KeyReferences<'s> {
     palette: &'s Colours,
 }
 
-impl Rule<StyleKey> for KeyReferences<'_> {
+impl Requirement<StyleKey> for KeyReferences<'_> {
     ghost use Rattle.xs_check.specs.Passes.{Names};
     ghost use Rattle.xs_json.specs.Objects.{path_of};
     ghost use Rattle.xs_json.specs.declared.field.Field.TheVariants as fields;
 
-    ghost finds = { λ rule at key. Names (path_of fields.Style at) rule.palette.now.styles key.style };
+    ghost finds = { λ required at key. Names (path_of fields.Style at) required.palette.now.styles key.style };
 
     fn look(&self, alloc: Global, item: &StyleKey, at: &Place) -> Result<(), FieldFault> {
         let palette = self.palette;
@@ -68,7 +69,7 @@ impl Rule<StyleKey> for KeyReferences<'_> {
 #[derive(Drop)]
 struct PaletteReferences;
 
-impl Rule<Colours> for PaletteReferences {
+impl Requirement<Colours> for PaletteReferences {
     ghost use Rattle.xs_check.specs.Passes.{PaletteReferences as Found};
 
     ghost finds = { λ _. Found };
@@ -91,10 +92,10 @@ struct LevelReferences<'s> {
     scene: &'s Scene,
 }
 
-impl Rule<Level> for LevelReferences<'_> {
+impl Requirement<Level> for LevelReferences<'_> {
     ghost use Rattle.xs_check.specs.Passes.{LevelReference};
 
-    ghost finds = { λ rule. LevelReference rule.scene.now };
+    ghost finds = { λ required. LevelReference required.scene.now };
 
     #[tactic(auto, unfolding(crate::specs::Passes::LevelReference))]
     fn look(&self, alloc: Global, item: &Level, at: &Place) -> Result<(), FieldFault> {
@@ -129,10 +130,10 @@ struct ShownReferences<'s> {
     scene: &'s Scene,
 }
 
-impl Rule<Exposure> for ShownReferences<'_> {
+impl Requirement<Exposure> for ShownReferences<'_> {
     ghost use Rattle.xs_check.specs.Passes.{CellReferences as Found};
 
-    ghost finds = { λ rule. Found rule.scene.now };
+    ghost finds = { λ required. Found required.scene.now };
 
     #[tactic(auto, unfolding(crate::specs::Passes::CellReferences))]
     fn look(&self, alloc: Global, item: &Exposure, at: &Place) -> Result<(), FieldFault> {
@@ -154,10 +155,10 @@ struct PegReferences<'s> {
     sheet: &'s Sheet,
 }
 
-impl Rule<Peg> for PegReferences<'_> {
+impl Requirement<Peg> for PegReferences<'_> {
     ghost use Rattle.xs_check.specs.Passes.{PegReference};
 
-    ghost finds = { λ rule. PegReference rule.sheet.now };
+    ghost finds = { λ required. PegReference required.sheet.now };
 
     fn look(&self, alloc: Global, item: &Peg, at: &Place) -> Result<(), FieldFault> {
         let sheet = self.sheet;
@@ -172,10 +173,10 @@ struct ColumnReferences<'s> {
     sheet: &'s Sheet,
 }
 
-impl Rule<Column> for ColumnReferences<'_> {
+impl Requirement<Column> for ColumnReferences<'_> {
     ghost use Rattle.xs_check.specs.Passes.{ColumnReferences as Found};
 
-    ghost finds = { λ rule. Found rule.scene.now rule.sheet.now };
+    ghost finds = { λ required. Found required.scene.now required.sheet.now };
 
     fn look(&self, alloc: Global, item: &Column, at: &Place) -> Result<(), FieldFault> {
         let (scene, sheet) = (self.scene, self.sheet);
@@ -197,10 +198,10 @@ struct RefReferences<'s> {
     sheet: &'s Sheet,
 }
 
-impl Rule<Ref> for RefReferences<'_> {
+impl Requirement<Ref> for RefReferences<'_> {
     ghost use Rattle.xs_check.specs.Passes.{RefReference};
 
-    ghost finds = { λ rule. RefReference rule.sheet.now };
+    ghost finds = { λ required. RefReference required.sheet.now };
 
     fn look(&self, alloc: Global, item: &Ref, at: &Place) -> Result<(), FieldFault> {
         let sheet = self.sheet;
@@ -217,35 +218,35 @@ struct NodeReferences<'s> {
     sheet: &'s Sheet,
 }
 
-impl Rule<Node> for NodeReferences<'_> {
+impl Requirement<Node> for NodeReferences<'_> {
     ghost use Rattle.xs_check.specs.Passes.{NodeReferences as Found};
 
-    ghost finds = { λ rule. Found rule.sheet.now };
+    ghost finds = { λ required. Found required.sheet.now };
 
     fn look(&self, alloc: Global, item: &Node, at: &Place) -> Result<(), FieldFault> {
         let path = at.path(alloc)?;
-        let rule = RefReferences { sheet: self.sheet };
+        let target = RefReferences { sheet: self.sheet };
         match item {
             Node::Pair {
                 op: _,
                 first,
                 second,
             } => {
-                rule.look(alloc, first, &Place::key(&path, Field::First))?;
-                rule.look(alloc, second, &Place::key(&path, Field::Second))
+                target.look(alloc, first, &Place::key(&path, Field::First))?;
+                target.look(alloc, second, &Place::key(&path, Field::Second))
             }
             Node::Card(_) => Ok(()),
             Node::Shuffle { input, list: _ } => {
-                rule.look(alloc, input, &Place::key(&path, Field::Input))
+                target.look(alloc, input, &Place::key(&path, Field::Input))
             }
             Node::Blur { input, radius: _ } => {
-                rule.look(alloc, input, &Place::key(&path, Field::Input))
+                target.look(alloc, input, &Place::key(&path, Field::Input))
             }
             Node::Keep { input, styles: _ } => {
-                rule.look(alloc, input, &Place::key(&path, Field::Input))
+                target.look(alloc, input, &Place::key(&path, Field::Input))
             }
             Node::Delete { input, styles: _ } => {
-                rule.look(alloc, input, &Place::key(&path, Field::Input))
+                target.look(alloc, input, &Place::key(&path, Field::Input))
             }
         }
     }
@@ -267,10 +268,10 @@ struct SheetReferences<'s> {
     scene: &'s Scene,
 }
 
-impl Rule<Sheet> for SheetReferences<'_> {
+impl Requirement<Sheet> for SheetReferences<'_> {
     ghost use Rattle.xs_check.specs.Passes.{SheetReferences as Found};
 
-    ghost finds = { λ rule. Found rule.scene.now };
+    ghost finds = { λ required. Found required.scene.now };
 
     fn look(&self, alloc: Global, item: &Sheet, at: &Place) -> Result<(), FieldFault> {
         let scene = self.scene;

@@ -1,7 +1,11 @@
+//! Lists that are too long.
 ghost use Rattle.xs_check.specs.Finding.{Finds, IfThere};
 ghost use Rattle.xs_check.specs.Passes.{AtMost, Sizes};
 
-use crate::finding::{Rule, each};
+use crate::finding::{Requirement, each};
+use crate::limits::{
+    LONGEST_SHUFFLE, MOST_COLUMNS, MOST_NODES, MOST_STYLE_KEYS, MOST_STYLES, MOST_TERMINALS,
+};
 use std::alloc::Global;
 use xs_json::{Field, FieldFault, Path, Place, SceneCode};
 use xs_pixel::List;
@@ -22,15 +26,20 @@ fn at_most<T>(alloc: Global, limit: usize, at: &Place, list: &List<T>) -> Result
 #[derive(Drop)]
 struct PaletteSizes;
 
-impl Rule<Colours> for PaletteSizes {
+impl Requirement<Colours> for PaletteSizes {
     ghost use Rattle.xs_check.specs.Passes.{PaletteSizes as Found};
 
     ghost finds = { λ _. Found };
 
     fn look(&self, alloc: Global, item: &Colours, at: &Place) -> Result<(), FieldFault> {
-        at_most(alloc, 4096, at, &item.styles)?;
+        at_most(alloc, MOST_STYLES, at, &item.styles)?;
         let path = at.path(alloc)?;
-        at_most(alloc, 4096, &Place::key(&path, Field::Keys), &item.keys)
+        at_most(
+            alloc,
+            MOST_STYLE_KEYS,
+            &Place::key(&path, Field::Keys),
+            &item.keys,
+        )
     }
 }
 
@@ -38,7 +47,7 @@ impl Rule<Colours> for PaletteSizes {
 #[derive(Drop)]
 struct NodeSizes;
 
-impl Rule<Node> for NodeSizes {
+impl Requirement<Node> for NodeSizes {
     ghost use Rattle.xs_check.specs.Passes.{NodeSizes as Found};
 
     ghost finds = { λ _. Found };
@@ -47,13 +56,28 @@ impl Rule<Node> for NodeSizes {
         let path = at.path(alloc)?;
         match item {
             Node::Shuffle { input: _, list } => {
-                at_most(alloc, 9999, &Place::key(&path, Field::List), list)
+                at_most(
+                    alloc,
+                    LONGEST_SHUFFLE,
+                    &Place::key(&path, Field::List),
+                    list,
+                )
             }
             Node::Keep { input: _, styles } => {
-                at_most(alloc, 4096, &Place::key(&path, Field::Styles), styles)
+                at_most(
+                    alloc,
+                    MOST_STYLES,
+                    &Place::key(&path, Field::Styles),
+                    styles,
+                )
             }
             Node::Delete { input: _, styles } => {
-                at_most(alloc, 4096, &Place::key(&path, Field::Styles), styles)
+                at_most(
+                    alloc,
+                    MOST_STYLES,
+                    &Place::key(&path, Field::Styles),
+                    styles,
+                )
             }
             Node::Pair { .. } | Node::Card(_) | Node::Blur { .. } => Ok(()),
         }
@@ -65,7 +89,7 @@ fn out_size(alloc: Global, at: &Place, out: &Option<List<Ref>>) -> Result<(), Fi
     ensures { Finds result (IfThere (AtMost 1024 at.now) out.now) }
 {
     match out {
-        Some(list) => at_most(alloc, 1024, at, list),
+        Some(list) => at_most(alloc, MOST_TERMINALS, at, list),
         None => Ok(()),
     }
 }
@@ -74,7 +98,7 @@ fn out_size(alloc: Global, at: &Place, out: &Option<List<Ref>>) -> Result<(), Fi
 #[derive(Drop)]
 struct SheetSizes;
 
-impl Rule<Sheet> for SheetSizes {
+impl Requirement<Sheet> for SheetSizes {
     ghost use Rattle.xs_check.specs.Passes.{SheetSizes as Found};
 
     ghost finds = { λ _. Found };
@@ -83,12 +107,12 @@ impl Rule<Sheet> for SheetSizes {
         let path = at.path(alloc)?;
         at_most(
             alloc,
-            1024,
+            MOST_COLUMNS,
             &Place::key(&path, Field::Columns),
             &item.columns,
         )?;
         let nodes = Place::key(&path, Field::Nodes).path(alloc)?;
-        at_most(alloc, 256, &Place::here(&nodes), &item.nodes)?;
+        at_most(alloc, MOST_NODES, &Place::here(&nodes), &item.nodes)?;
         each(alloc, &NodeSizes, item.nodes.items(), &nodes)?;
         out_size(alloc, &Place::key(&path, Field::Out), &item.out)
     }

@@ -2,7 +2,7 @@ use Rattle.std.proofs.Common.{◌≡◌, ◌<◌, ◌≤◌, ◌+◌, ◌==◌, 
 use Rattle.std.proofs.Math.ListN.{get_or-map}
 use Rattle.std.proofs.lemmas.List.{length-map, get_or_past}
 use Rattle.std.proofs.Math.Numerals.{add-one}
-use Rattle.std.proofs.lemmas.Bool.{false≢true, cases_lt}
+use Rattle.std.proofs.lemmas.Bool.{false≢true, cases_lt, cases_Bool}
 use Rattle.std.proofs.lemmas.Bool.Decides.{nat_tests}
 use Rattle.std.proofs.lemmas.List.Folds.{Any-from_list_any, list_any-from_Any}
 use Rattle.std.specs.List.{list_any}
@@ -33,14 +33,9 @@ chain_told links (suc steps) a b (c, (k, below, is), path) =
 pub no_chain : (links : Links) (steps a : ℕ) → has_chain links steps a ≡ false → HasChain links steps a → ⊥
 no_chain links steps a told chain = false≢true (sym told ∙ chain_told links steps a chain.end chain.path)
 
-pub bool_cases : (b : Bool) (P : Type 0) → (b ≡ true → P) → (b ≡ false → P) → P
-bool_cases true P when_true when_false = when_true refl
-bool_cases false P when_true when_false = when_false refl
-
 pub chain_missing : (links : Links) (steps a : ℕ) → (HasChain links steps a → ⊥) → has_chain links steps a ≡ false
 chain_missing links steps a none =
-    bool_cases (has_chain links steps a) (has_chain links steps a ≡ false)
-    (λ h. absurd (none (chain_found links steps a h))) (λ h. h)
+    elim (cases_Bool (has_chain links steps a)) [ inl begins ↦ absurd (none (chain_found links steps a begins)) | inr missing ↦ missing ]
 
 -- a path with one step more at its end
 pub leads_on : (links : Links) (steps a b c : ℕ) → Leads links steps a b → Contains (successors links b) c → Leads links (suc steps) a c

@@ -40,18 +40,6 @@ unnoted_below seen x is =
 
 -- ---- some numbers more
 
-pub grows_none : (seen : List Bool) (met : List ℕ) → Grows seen met [] seen met
-grows_none seen met =
-    record {
-      as_long = refl;
-      kept = λ x h. h;
-      noted = λ k d below. absurd (omega arith);
-      marked = λ h. h;
-      more = omega arith;
-      before = λ k below. refl;
-      from = λ x h. inl h;
-    }
-
 grows_new : (seen : List Bool) (met : List ℕ) (x : ℕ) → x < length seen → Grows seen met (x ∷ []) (set seen x true) (met ++ x ∷ [])
 grows_new seen met x below =
     record {
@@ -108,9 +96,6 @@ grows_then seen met targets seen1 met1 named1 seen2 met2 g h =
 
 -- ---- the search
 
-contains_none : (x : ℕ) → Contains [] x → ⊥
-contains_none x (k, below, is) = omega arith
-
 pub search_begins : (links : Links) (from : ℕ) (none seen : List Bool) (met : List ℕ) → none ≡ map (λ targets. false) links
     → Grows none [] (successors links from) seen met → Searching links from seen met 0
 unfolding Leads
@@ -121,7 +106,7 @@ search_begins links from none seen met is g =
       reached =
           λ x c.
           elim (g.from x c)
-          [ inl none ↦ absurd (contains_none x none) | inr targets ↦ record { steps = 0; path = (x, targets, refl) } ];
+          [ inl none ↦ absurd (let below = none.1 in omega arith) | inr targets ↦ record { steps = 0; path = (x, targets, refl) } ];
       marked = g.marked (λ x marked. absurd (false≢true (sym (unmarked x) ∙ marked)));
       first = g.noted;
       closed = λ k below. absurd (omega arith);
@@ -167,7 +152,7 @@ module _ (links : Links) (from : ℕ) (seen : List Bool) (met : List ℕ) (done 
             subst (λ (y : ℕ). All (λ z. is_noted seen z ≡ true) (successors links y)) (get_or_default met j 0 x met_at ∙ met_is)
             (s.closed j (omega arith)) in
             subst (λ (y : ℕ). is_noted seen y ≡ true) is (closed k c inside)
-        | inr past ↦ absurd (contains_none c (subst (λ (l : List ℕ). Contains l c) (get_or_past links x [] past) (k, inside, is)))
+        | inr past ↦ absurd (let none : k < 0 = subst (λ (l : List ℕ). k < length l) (get_or_past links x [] past) inside in omega arith)
       ]
 
   noted_paths : (steps x b : ℕ) → is_noted seen x ≡ true → Leads links steps x b → is_noted seen b ≡ true

@@ -1,7 +1,10 @@
 -- What is settled: shown, or shown false.
-use Rattle.std.proofs.Common.{◌≡◌, ◌⊎◌, ℕ, zero, suc, Bool, true, false, List, [], ◌∷◌, Contains, Decides, inl, inr, refl, arith}
-use Rattle.std.proofs.lemmas.Bool.{cases_eq}
+use Rattle.std.proofs.Common.{◌⊎◌, ℕ, Bool, true, false, List, Contains, Decides, eqb, inl, inr, refl}
+use Rattle.std.specs.List.{list_any}
+use Rattle.std.proofs.lemmas.Bool.{eqb-true}
 use Rattle.std.proofs.lemmas.Bool.Decides.{not_from_Decides}
+use Rattle.std.proofs.lemmas.Cmp.{nat_eq_equiv}
+use Rattle.std.proofs.lemmas.Map.Views.{Contains-from_any, list_any-from_Contains}
 use Rattle.xs_graph.specs.Paths.{Links, HasChain, has_chain}
 use Rattle.xs_graph.specs.Settled.{Settled}
 use Rattle.xs_graph.proofs.ChainMarks.{chain_found, chain_told}
@@ -28,22 +31,9 @@ pub settled_test : (P : Type 0) (b : Bool) → Decides b P → Settled P
 settled_test P true decides = inl (decides.0 refl)
 settled_test P false decides = inr (not_from_Decides false decides refl)
 
-contains_first_or_later : (y : ℕ) (ys : List ℕ) (x : ℕ) → (y ≡ x) ⊎ Contains ys x → Contains (y ∷ ys) x
-contains_first_or_later y ys x (inl is) = (0, omega arith, is)
-contains_first_or_later y ys x (inr (k, below, is)) = (suc k, omega arith, is)
-
-first_or_later_contains : (y : ℕ) (ys : List ℕ) (x : ℕ) → Contains (y ∷ ys) x → (y ≡ x) ⊎ Contains ys x
-first_or_later_contains y ys x (zero, below, is) = inl is
-first_or_later_contains y ys x (suc k, below, is) = inr (k, omega arith, is)
-
-contains_none : (x : ℕ) → Contains [] x → ⊥
-contains_none x (k, below, is) = omega arith
-
 pub settled_contains : (xs : List ℕ) (x : ℕ) → Settled (Contains xs x)
-settled_contains [] x = inr (contains_none x)
-settled_contains (y ∷ ys) x =
-    settled_like _ _ (contains_first_or_later y ys x) (first_or_later_contains y ys x)
-    (settled_either _ _ (cases_eq y x) (settled_contains ys x))
+settled_contains xs x =
+    settled_test _ (list_any (eqb x) xs) (Contains-from_any eqb-true x xs, list_any-from_Contains nat_eq_equiv x xs)
 
 -- ---- of chains
 

@@ -14,14 +14,14 @@ NeverRise links labels =
 abbrev pub Falls : Links → List ℕ → ℕ → Type 0
 Falls links labels a = All (λ c. slice_index labels c < slice_index labels a) (successors links a)
 
--- labels tell the first node on a cycle where they never rise and the first node that does not only link to
--- nodes with smaller labels lies on a cycle
-abbrev pub Tell : Links → List ℕ → Type 0
-Tell links labels =
+-- labels show which node is the first on a cycle where they never rise and the first node that does not only
+-- link to nodes with smaller labels lies on a cycle
+abbrev pub AreConclusive : Links → List ℕ → Type 0
+AreConclusive links labels =
     NeverRise links labels
     × ((first : Option ℕ) → IsFirstWithout (Falls links labels) (length links) first → IfSome first (LiesOnCycle links))
 
--- the first node on a cycle; nothing only where labels do not tell it
-abbrev pub Tells : Links → List ℕ → Told → Type 0
-Tells links labels (First first) = IsFirstWithout (λ a. LiesOnCycle links a → ⊥) (length links) first
-Tells links labels Nothing = Tell links labels → ⊥
+-- the first node on a cycle; nothing only where labels do not show it
+abbrev pub IsToldBy : Links → List ℕ → Told → Type 0
+IsToldBy links labels (First first) = IsFirstWithout (λ a. LiesOnCycle links a → ⊥) (length links) first
+IsToldBy links labels Nothing = AreConclusive links labels → ⊥

@@ -90,7 +90,7 @@ fn first_marked(marks: &[bool]) -> Option<usize>
     None
 }
 
-/// The first node at which a chain begins that has `steps` more after it.
+/// The first node at which a chain begins that has `steps` more after it, if there is one.
 pub fn first_long(
     alloc: Global,
     links: &List<List<u32>>,

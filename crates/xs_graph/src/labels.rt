@@ -1,8 +1,9 @@
 //! The first node on a cycle, by labels of the nodes: no node is on one before the first that links to a node
 //! with its own label. That no label rises along a link and that this node is on a cycle is tested; where it is
 //! not so, each node is asked whether a path leads back to it.
-ghost use Rattle.std.specs.Prelude.{◌≡◌, ◌<◌, ◌≤◌, ◌↔◌, IfOk, IfSome, IsTrue, All, length, slice_index};
-ghost use Rattle.xs_graph.specs.Labels.{NeverRise, Falls, Tells};
+ghost use Rattle.std.specs.Prelude.{◌≡◌, ◌<◌, ◌≤◌, ◌↔◌, ℕ, IfOk, IfSome, IsTrue, All, length, slice_index};
+ghost use Rattle.std.specs.Prelude.{List as Items};
+ghost use Rattle.xs_graph.specs.Labels.{NeverRise, Falls, IsToldBy};
 ghost use Rattle.xs_graph.specs.First.{IsFirstWithout};
 ghost use Rattle.xs_graph.specs.Paths.{LiesOnCycle};
 
@@ -83,19 +84,16 @@ fn is_on_cycle(
 
 /// What labels tell of the first node on a cycle.
 #[derive(Clone, Copy, Debug, PartialEq, Eq)]
-pub(crate) enum Told {
+pub enum Told {
     /// The first node on a cycle, or that there is none.
     First(Option<usize>),
+    /// Labels do not show which node is the first on a cycle.
     Nothing,
 }
 
-/// The first node on a cycle, where the labels tell it.
-pub(crate) fn first_by_labels(
-    alloc: Global,
-    links: &List<List<u32>>,
-    labels: &[u32],
-) -> Result<Told, AllocError>
-    ensures { IfOk result (Tells links.now labels.now) }
+/// What some labels tell of the first node on a cycle.
+fn told_by(alloc: Global, links: &List<List<u32>>, labels: &[u32]) -> Result<Told, AllocError>
+    ensures { IfOk result (IsToldBy links.now labels.now) }
 {
     let nodes = links.items();
     if !never_rise(nodes, labels) {
@@ -109,12 +107,20 @@ pub(crate) fn first_by_labels(
     }
 }
 
-/// The first node from which a path leads back to it.
+/// The quick way: what the labels of one walk over all nodes tell of the first node on a cycle. Where they tell
+/// something, it is what `first_on_cycle` answers.
+pub fn first_by_labels(alloc: Global, links: &List<List<u32>>) -> Result<Told, AllocError>
+    ensures { IfOk result (λ told. (labels : Items ℕ) × IsToldBy links.now labels told) }
+{
+    let labels = labels_of(alloc, links)?;
+    told_by(alloc, links, labels.as_slice())
+}
+
+/// The first node from which a path leads back to it, if there is one.
 pub fn first_on_cycle(alloc: Global, links: &List<List<u32>>) -> Result<Option<usize>, AllocError>
     ensures { IfOk result (IsFirstWithout (λ a. LiesOnCycle links.now a → ⊥) (length links.now)) }
 {
-    let labels = labels_of(alloc, links)?;
-    match first_by_labels(alloc, links, labels.as_slice())? {
+    match first_by_labels(alloc, links)? {
         Told::First(first) => Ok(first),
         Told::Nothing => first_by_search(alloc, links),
     }

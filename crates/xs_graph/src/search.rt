@@ -64,7 +64,8 @@ pub(crate) fn leads_back(
     Ok(seen[from as usize])
 }
 
-/// The first node from which a path leads back to it.
+/// The first node from which a path leads back to it, if there is one: the plain body with which
+/// `first_on_cycle` is compared.
 pub fn first_by_search(alloc: Global, links: &List<List<u32>>) -> Result<Option<usize>, AllocError>
     ensures { IfOk result (IsFirstWithout (λ a. LiesOnCycle links.now a → ⊥) (length links.now)) }
 {

@@ -1,22 +1,17 @@
 -- What a search in a list in order finds is what a definition chooses from the list as it stands
-use Rattle.std.proofs.Common.{◌≡◌, ◌≤◌, ◌<◌, ◌-◌, ℕ, zero, Bool, true, ◌&&◌, eqb, leb, Option, Some, None, List, All, AllPairs, Contains, IfSome, MatchOption, filter, get_or, pos, refl, sym, ap, ◌∙◌, subst, inl, inr, leb-true, le_antisymm, arith}
+use Rattle.std.proofs.Common.{◌≡◌, ◌≤◌, ◌<◌, ◌-◌, ℕ, zero, true, false, Option, Some, None, List, All, AllPairs, Contains, MatchOption, get_or, pos, refl, sym, ap, ◌∙◌, subst, inl, inr, le_antisymm, arith}
 use Rattle.std.specs.List.Sorted.{IsPermutation}
-use Rattle.std.proofs.lemmas.Bool.{cases_lt, cases_Bool, le-leb, and_from, eq-eqb, eqb-true}
+use Rattle.std.proofs.lemmas.Bool.{cases_lt, cases_Bool, le-leb, and_from}
+use Rattle.std.proofs.lemmas.Bool.Decides.{nat_tests}
 use Rattle.std.proofs.lemmas.List.{get_or_default}
-use Rattle.std.proofs.lemmas.List.Elements.{All-contains, All-filter, All-contains_itself, filter_passes}
+use Rattle.std.proofs.lemmas.List.Elements.{All-contains, All-contains_itself}
 use Rattle.std.proofs.lemmas.List.Sorted.{All-permutation, Contains-permutation, IsPermutation-sym}
 use Rattle.xs_scene.specs.declared.seen.Seen.TheVariants.{Empty}
 use Rattle.xs_scene.specs.Records.{ColumnRecord, ColoursRecord, ExposureRecord, PegKeyRecord, StyleKeyRecord}
 use Rattle.xs_meaning.specs.Cells.{cell_at, covers, shown_after}
-use Rattle.xs_meaning.specs.Chosen.{IsKeyInForce, IsKeyAfter, HasDistinctRows}
-use Rattle.xs_meaning.specs.Keys.{latest}
-use Rattle.xs_meaning.specs.Palettes.{key_at}
+use Rattle.xs_meaning.specs.Chosen.{IsOnlyAt, IsKeyInForce, IsKeyAfter, HasDistinctRows, IsStyleKeyInForce}
 use Rattle.xs_meaning.specs.Places.{own_offset, offset_by, offset_from, key_in_force, key_after}
 use Rattle.xs_meaning.specs.Points.{Point, point}
-use Rattle.xs_meaning.proofs.ChosenCells.{cell_at-only, cell_at-gap}
-use Rattle.xs_meaning.proofs.ChosenKeys.{key_in_force-is, key_after-is, key_in_force-only, key_after-only}
-use Rattle.xs_meaning.proofs.KeyLemmas.{latest-has, latest-greatest, latest-none, filter-All, filter-none}
-use Rattle.xs_meaning.proofs.Lists.{both_true}
 use Rattle.xs_index.specs.Apart.{AreApart, DifferInRow, DifferInRowOrStyle}
 use Rattle.xs_index.specs.Order.{IsLast, IsNext}
 
@@ -45,18 +40,18 @@ pairs_same R xs a b pairs in_a in_b forth back =
 -- ---- cells
 
 covered : (row : ℕ) (e : ExposureRecord) → covers row e ≡ true → (e.from ≤ row) × (row ≤ e.to)
-covered row e is =
-    let both = both_true (leb e.from row) (leb row e.to) is in (leb-true _ _ both.0, leb-true _ _ both.1)
+covered row e is = (grind (arith, nat_tests), grind (arith, nat_tests))
 
 module _ (column : ColumnRecord) (cells : List ExposureRecord) (row : ℕ) (moved : IsPermutation column.cells cells) (apart : AllPairs AreApart column.cells) where
   back : IsPermutation cells column.cells
   back = IsPermutation-sym column.cells cells moved
 
-  pub cell_found : (e : ExposureRecord) → IsLast (λ (e : ExposureRecord). 0) (λ e. e.from) 0 row cells e → row ≤ e.to
+  pub cell_found : ((e : ExposureRecord) → IsOnlyAt column row e → cell_at column row ≡ shown_after (row - e.from) e.shown)
+      → (e : ExposureRecord) → IsLast (λ (e : ExposureRecord). 0) (λ e. e.from) 0 row cells e → row ≤ e.to
       → shown_after (row - e.from) e.shown ≡ cell_at column row
-  cell_found e is here =
+  cell_found shown e is here =
       let among : Contains column.cells e = Contains-permutation cells column.cells e back is.among in
-      sym (cell_at-only column row e
+      sym (shown e
       (record {
         among = among;
         at_row = and_from _ _ (le-leb e.from row is.begun) (le-leb row e.to here);
@@ -68,14 +63,15 @@ module _ (column : ColumnRecord) (cells : List ExposureRecord) (row : ℕ) (move
             (λ no. no row at.0 at.1 is.begun here) (λ no. no row is.begun here at.0 at.1);
       }))
 
-  pub cell_gap : (e : ExposureRecord) → IsLast (λ (e : ExposureRecord). 0) (λ e. e.from) 0 row cells e → e.from ≤ e.to → e.to < row
+  pub cell_gap : (All (λ e. covers row e ≡ false) column.cells → cell_at column row ≡ Empty)
+      → (e : ExposureRecord) → IsLast (λ (e : ExposureRecord). 0) (λ e. e.from) 0 row cells e → e.from ≤ e.to → e.to < row
       → Empty ≡ cell_at column row
-  cell_gap e is rows past =
+  cell_gap gap e is rows past =
       let among : Contains column.cells e = Contains-permutation cells column.cells e back is.among in
       let last : All (λ k. zero ≡ zero → k.from ≤ row → k.from ≤ e.from) column.cells =
       All-permutation (λ (k : ExposureRecord). zero ≡ zero → k.from ≤ row → k.from ≤ e.from) cells column.cells back is.last
       in
-      sym (cell_at-gap column row
+      sym (gap
       (λ i d below.
       let other = get_or column.cells i d in
       elim (cases_Bool (covers row other)) [
@@ -91,10 +87,11 @@ module _ (column : ColumnRecord) (cells : List ExposureRecord) (row : ℕ) (move
         | inr free ↦ free
       ]))
 
-  pub cell_none : All (λ (k : ExposureRecord). zero ≡ zero → row < k.from) cells → Empty ≡ cell_at column row
-  cell_none late =
+  pub cell_none : (All (λ e. covers row e ≡ false) column.cells → cell_at column row ≡ Empty)
+      → All (λ (k : ExposureRecord). zero ≡ zero → row < k.from) cells → Empty ≡ cell_at column row
+  cell_none gap late =
       let all = All-permutation (λ (k : ExposureRecord). zero ≡ zero → row < k.from) cells column.cells back late in
-      sym (cell_at-gap column row
+      sym (gap
       (λ i d below.
       let other = get_or column.cells i d in
       elim (cases_Bool (covers row other)) [
@@ -111,13 +108,17 @@ distinct : (list : List PegKeyRecord) → AllPairs DifferInRow list → HasDisti
 distinct list differ k other in_k in_other same =
     pairs_same DifferInRow list k other differ in_k in_other (λ no. no same) (λ no. no (sym same))
 
-module _ (list keys : List PegKeyRecord) (row : ℕ) (moved : IsPermutation list keys) (differ : AllPairs DifferInRow list) where
+module _ (list keys : List PegKeyRecord) (row : ℕ) (moved : IsPermutation list keys) (differ : AllPairs DifferInRow list)
+    (told_in_force : MatchOption (key_in_force list row) (All (λ k. row < k.row) list) (IsKeyInForce list row))
+    (only_in_force : (a : PegKeyRecord) → HasDistinctRows list → IsKeyInForce list row a → key_in_force list row ≡ Some a)
+    (told_after : MatchOption (key_after list row) (All (λ k. k.row ≤ row) list) (IsKeyAfter list row))
+    (only_after : (b : PegKeyRecord) → HasDistinctRows list → IsKeyAfter list row b → key_after list row ≡ Some b) where
   key_back : IsPermutation keys list
   key_back = IsPermutation-sym list keys moved
 
   in_force : (a : PegKeyRecord) → IsLast (λ (k : PegKeyRecord). 0) (λ k. k.row) 0 row keys a → key_in_force list row ≡ Some a
   in_force a is =
-      key_in_force-only list row a (distinct list differ)
+      only_in_force a (distinct list differ)
       (record {
         among = Contains-permutation keys list a key_back is.among;
         begun = is.begun;
@@ -126,7 +127,7 @@ module _ (list keys : List PegKeyRecord) (row : ℕ) (moved : IsPermutation list
       })
 
   none_in_force : All (λ (k : PegKeyRecord). zero ≡ zero → row < k.row) keys → key_in_force list row ≡ None
-  none_in_force late = none (key_in_force list row) (key_in_force-is list row)
+  none_in_force late = none (key_in_force list row) told_in_force
     where
       none : (o : Option PegKeyRecord) → MatchOption o (All (λ k. row < k.row) list) (IsKeyInForce list row) → o ≡ None
       none None all = refl
@@ -140,7 +141,7 @@ module _ (list keys : List PegKeyRecord) (row : ℕ) (moved : IsPermutation list
   after_is : (next : Option PegKeyRecord)
       → MatchOption next (All (λ (k : PegKeyRecord). zero ≡ zero → k.row ≤ row) keys) (IsNext (λ (k : PegKeyRecord). 0) (λ k. k.row) 0 row keys)
       → key_after list row ≡ next
-  after_is None all = none (key_after list row) (key_after-is list row)
+  after_is None all = none (key_after list row) told_after
     where
       none : (o : Option PegKeyRecord) → MatchOption o (All (λ k. k.row ≤ row) list) (IsKeyAfter list row) → o ≡ None
       none None early = refl
@@ -151,7 +152,7 @@ module _ (list keys : List PegKeyRecord) (row : ℕ) (moved : IsPermutation list
           let later = is.later in
           absurd (omega arith)
   after_is (Some b) is =
-      key_after-only list row b (distinct list differ)
+      only_after b (distinct list differ)
       (record {
         among = Contains-permutation keys list b key_back is.among;
         later = is.later;
@@ -173,56 +174,34 @@ module _ (list keys : List PegKeyRecord) (row : ℕ) (moved : IsPermutation list
 
 -- ---- keys of a palette
 
-abbrev sets : ℕ → ℕ → StyleKeyRecord → Bool
-sets style row k = eqb k.style style && leb k.row row
-
-set_by : (style row : ℕ) (k : StyleKeyRecord) → sets style row k ≡ true → (k.style ≡ style) × (k.row ≤ row)
-set_by style row k is =
-    let both = both_true (eqb k.style style) (leb k.row row) is in (eqb-true _ _ both.0, leb-true _ _ both.1)
-
 module _ (c : ColoursRecord) (keys : List StyleKeyRecord) (style row : ℕ) (moved : IsPermutation c.keys keys) (differ : AllPairs DifferInRowOrStyle c.keys) where
   style_back : IsPermutation keys c.keys
   style_back = IsPermutation-sym c.keys keys moved
 
-  chosen : (found o : Option StyleKeyRecord)
+  pub key_chosen : (found key : Option StyleKeyRecord)
       → MatchOption found (All (λ (k : StyleKeyRecord). k.style ≡ style → row < k.row) keys) (IsLast (λ (k : StyleKeyRecord). k.style) (λ k. k.row) style row keys)
-      → latest (λ k. k.row) (filter (sets style row) c.keys) ≡ o
-      → IfSome o (λ k. Contains c.keys k × (sets style row k ≡ true))
-      → IfSome o (λ b. All (λ k. k.row ≤ b.row) (filter (sets style row) c.keys)) → found ≡ o
-  chosen None None all is has greatest = refl
-  chosen None (Some b) all is has greatest =
-      let by = set_by style row b has.1 in
+      → MatchOption key (All (λ k. k.style ≡ style → row < k.row) c.keys) (IsStyleKeyInForce c.keys row style) → found ≡ key
+  key_chosen None None all none = refl
+  key_chosen None (Some b) all is =
       let after = All-contains (λ (k : StyleKeyRecord). k.style ≡ style → row < k.row) c.keys b
-      (All-permutation (λ (k : StyleKeyRecord). k.style ≡ style → row < k.row) keys c.keys style_back all) has.0 by.0
+      (All-permutation (λ (k : StyleKeyRecord). k.style ≡ style → row < k.row) keys c.keys style_back all) is.among is.of_style
       in
-      absurd (omega (arith, by.1))
-  chosen (Some a) None last is has greatest =
-      absurd
-      (All-contains (λ (k : StyleKeyRecord). sets style row k ≡ true → ⊥) c.keys a
-      (filter-none (sets style row) c.keys (latest-none (λ k. k.row) (filter (sets style row) c.keys) is))
-      (Contains-permutation keys c.keys a style_back last.among)
-      (and_from _ _ (eq-eqb a.style style last.grouped) (le-leb a.row row last.begun)))
-  chosen (Some a) (Some b) last is has greatest =
-      let by = set_by style row b has.1 in
+      let begun = is.begun in
+      absurd (omega arith)
+  key_chosen (Some a) None last none =
+      let after = All-contains (λ (k : StyleKeyRecord). k.style ≡ style → row < k.row) c.keys a none
+      (Contains-permutation keys c.keys a style_back last.among) last.grouped
+      in
+      let begun = last.begun in
+      absurd (omega arith)
+  key_chosen (Some a) (Some b) last is =
       let among : Contains c.keys a = Contains-permutation keys c.keys a style_back last.among in
       let up : a.row ≤ b.row =
-      All-contains (λ (k : StyleKeyRecord). sets style row k ≡ true → k.row ≤ b.row) c.keys a
-      (filter-All (λ (k : StyleKeyRecord). k.row ≤ b.row) (sets style row) c.keys greatest) among
-      (and_from _ _ (eq-eqb a.style style last.grouped) (le-leb a.row row last.begun))
-      in
+      All-contains (λ (k : StyleKeyRecord). k.style ≡ style → k.row ≤ row → k.row ≤ b.row) c.keys a is.last among last.grouped last.begun in
       let down : b.row ≤ a.row =
       All-contains (λ (k : StyleKeyRecord). k.style ≡ style → k.row ≤ row → k.row ≤ a.row) c.keys b
-      (All-permutation (λ (k : StyleKeyRecord). k.style ≡ style → k.row ≤ row → k.row ≤ a.row) keys c.keys style_back last.last) has.0 by.0 by.1
+      (All-permutation (λ (k : StyleKeyRecord). k.style ≡ style → k.row ≤ row → k.row ≤ a.row) keys c.keys style_back last.last) is.among is.of_style is.begun
       in
-      let styles : a.style ≡ b.style = last.grouped ∙ sym by.0 in
+      let styles : a.style ≡ b.style = last.grouped ∙ sym is.of_style in
       let rows : a.row ≡ b.row = le_antisymm up down in
-      ap Some (pairs_same DifferInRowOrStyle c.keys a b differ among has.0 (λ no. no styles rows) (λ no. no (sym styles) (sym rows)))
-
-  pub key_chosen : (found : Option StyleKeyRecord)
-      → MatchOption found (All (λ (k : StyleKeyRecord). k.style ≡ style → row < k.row) keys) (IsLast (λ (k : StyleKeyRecord). k.style) (λ k. k.row) style row keys)
-      → found ≡ key_at c row style
-  key_chosen found is =
-      chosen found (latest (λ k. k.row) (filter (sets style row) c.keys)) is refl
-      (latest-has (λ k. Contains c.keys k × (sets style row k ≡ true)) (λ k. k.row) (filter (sets style row) c.keys)
-      (λ i d below. (All-filter (sets style row) (Contains c.keys) c.keys (All-contains_itself c.keys) i d below, filter_passes (sets style row) c.keys i d below)))
-      (latest-greatest (λ k. k.row) (filter (sets style row) c.keys))
+      ap Some (pairs_same DifferInRowOrStyle c.keys a b differ among is.among (λ no. no styles rows) (λ no. no (sym styles) (sym rows)))

@@ -64,9 +64,6 @@ module _ {K : Type 0} (group row : K → ℕ) where
   module _ (xs : List K) (g r n : ℕ) (order : IsInOrder group row xs) (within : n ≤ length xs)
       (before : (k : ℕ) (d : K) → k < n → has_begun group row g r (get_or xs k d) ≡ true)
       (after : (k : ℕ) (d : K) → n ≤ k → k < length xs → has_begun group row g r (get_or xs k d) ≡ false) where
-    pub last_empty : n ≡ 0 → All (λ k. group k ≡ g → r < row k) xs
-    last_empty none k d below same = not_begun_row (group (get_or xs k d)) (row (get_or xs k d)) g r (after k d (omega arith) below) same
-
     pub last_other : (a : K) → 0 < n → a ≡ get_or xs (n - 1) a → (group a ≡ g → ⊥) → All (λ k. group k ≡ g → r < row k) xs
     last_other a some is other k d below same =
         elim (cases_lt k n) [
@@ -97,9 +94,6 @@ module _ {K : Type 0} (group row : K → ℕ) where
         up k d below grouped early (inr back) =
             let late = not_begun_row (group (get_or xs k d)) (row (get_or xs k d)) g r (after k d back below) grouped in
             absurd (omega arith)
-
-    pub next_empty : n ≡ length xs → All (λ k. group k ≡ g → row k ≤ r) xs
-    next_empty all k d below same = begun_row (group (get_or xs k d)) (row (get_or xs k d)) g r (before k d (omega arith)) same
 
     pub next_other : (b : K) → n < length xs → b ≡ get_or xs n b → (group b ≡ g → ⊥) → All (λ k. group k ≡ g → row k ≤ r) xs
     next_other b some is other k d below same =

@@ -13,14 +13,18 @@ use xs_scene::{Colours, Column, Exposure, Peg, PegKey, Scene, Sheet, StyleKey};
 /// The cells of each column of a sheet, and the keys of each peg.
 #[derive(Debug, Drop)]
 pub struct SheetIndex {
+    /// The cells of each column.
     pub columns: List<List<Exposure>>,
+    /// The keys of each peg.
     pub pegs: List<List<PegKey>>,
 }
 
 /// The lists of each sheet, and the keys of each palette, all in order.
 #[derive(Debug, Drop)]
 pub struct Index {
+    /// The lists of each sheet.
     pub sheets: List<SheetIndex>,
+    /// The keys of each palette, style by style.
     pub palettes: List<List<StyleKey>>,
 }
 

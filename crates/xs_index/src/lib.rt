@@ -2,12 +2,12 @@
 //! them that cost a logarithm.
 #![tactic(auto)]
 
-pub mod index;
-pub mod order;
-pub mod search;
-pub mod timed;
+mod has_row;
+mod index;
+mod order;
+mod search;
 
-pub use index::Index;
+pub use has_row::HasRow;
+pub use index::{Index, SheetIndex};
 pub use order::in_order;
 pub use search::{key_in, offset_in, seen_in};
-pub use timed::Timed;

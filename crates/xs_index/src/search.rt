@@ -12,6 +12,8 @@ ghost use Rattle.xs_index.specs.Apart.{AreApart, DifferInRow, DifferInRowOrStyle
 ghost use Rattle.xs_index.specs.Order.{IsInOrder};
 
 use crate::order::{last_at, next_at};
+use xs_meaning::filters::palette_keys_are_chosen_by_row;
+use xs_meaning::rules::{cells_are_chosen_by_row, keys_are_chosen_by_row};
 use xs_scene::{Exposure, PegKey, Seen, StyleKey};
 use xs_sheet::cells::seen_at;
 use xs_sheet::keys::offset_between;
@@ -22,6 +24,7 @@ pub fn seen_in(cells: &[Exposure], row: u32) -> Seen
     ensures { (column : ColumnRecord) → IsPermutation column.cells cells.now → AllPairs AreApart column.cells
         → result ≡ cell_at column row }
 {
+    cells_are_chosen_by_row();
     let Some(exposure) = last_at(cells, 0, row) else {
         return Seen::Empty;
     };
@@ -40,6 +43,7 @@ pub fn offset_in(keys: &[PegKey], row: u32) -> (i32, i32)
     ensures across { IsOffset result.0 }
     ensures up { IsOffset result.1 }
 {
+    keys_are_chosen_by_row();
     match last_at(keys, 0, row) {
         None => (0, 0),
         Some(key) => offset_between(&key, next_at(keys, 0, row), row),
@@ -53,5 +57,6 @@ pub fn key_in(keys: &[StyleKey], style: u32, row: u32) -> Option<StyleKey>
     ensures { (c : ColoursRecord) → IsPermutation c.keys keys.now → AllPairs DifferInRowOrStyle c.keys
         → result ≡ key_at c row style }
 {
+    palette_keys_are_chosen_by_row();
     last_at(keys, style, row)
 }

@@ -15,7 +15,7 @@ use Rattle.xs_meaning.specs.Cells.{cell_at}
 use Rattle.xs_meaning.specs.Palettes.{Dropped, keeping, deleting}
 use Rattle.xs_meaning.specs.Places.{place_of}
 use Rattle.xs_meaning.specs.Points.{Point}
-use Rattle.xs_meaning.specs.Walk.{Reading, Rows, Inputs, sheet_at, column_at, terminals_of, seen_by, listed_by, node_by, walk, depth_of, above_by, composed_by, row_walk}
+use Rattle.xs_meaning.specs.Walk.{Reading, Rows, Inputs, sheet_at, column_at, terminals_of, seen_by, listed_by, node_by, walk, depth_of, above_by, composed_by, row_walk, whole_row, whole_input}
 
 -- T d relates the answers of two readings below d nested sheets, F the styles dropped for them; only
 -- cards and places of which the facts are known are met
@@ -131,3 +131,16 @@ module _ {A B : Type 0} (R : Reading A) (S : Reading B) (T : ℕ → A → B →
       walk-agrees d (row_walk R sheets d) (row_walk S sheets d) (row_walk-agrees sheets meets d)
       (sheet_at sheets k) (meets k) (depth_of (sheet_at sheets k)) t row f g same)
       (terminals_of (sheet_at sheets k))
+
+  -- and so on the whole rows, columns and nodes of the sheets
+  pub whole_row-agrees :
+      (sheets : List SheetRecord) → ((k : ℕ) → Meets IsCard IsPlace (sheet_at sheets k))
+      → (k row : ℕ) (f g : Dropped) → F f g → T 16 (whole_row R sheets k row f) (whole_row S sheets k row g)
+  whole_row-agrees sheets meets = row_walk-agrees sheets meets 16
+
+  pub whole_input-agrees :
+      (sheets : List SheetRecord) → ((k : ℕ) → Meets IsCard IsPlace (sheet_at sheets k))
+      → (k : ℕ) (n : Ref) (row : ℕ) (f g : Dropped) → F f g → T 17 (whole_input R sheets k n row f) (whole_input S sheets k n row g)
+  whole_input-agrees sheets meets k =
+      walk-agrees 16 (whole_row R sheets) (whole_row S sheets) (whole_row-agrees sheets meets)
+      (sheet_at sheets k) (meets k) (depth_of (sheet_at sheets k))

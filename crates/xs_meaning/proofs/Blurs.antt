@@ -1,8 +1,7 @@
 -- Blurs: of pixels, of a clear image, of a moved one
-use Rattle.std.proofs.Common.{ℕ, ◌+◌, ◌*◌, ◌/◌, ◌-ℤ◌, ◌≡◌, ◌≤◌, ◌<◌, refl, sym, ap, ◌∙◌, subst, List, [], ◌∷◌, map, sum_by, length, pos, ℤ, ap₂, zero-mul, suc-mul, arith}
-use Rattle.std.proofs.lemmas.List.Sums.{sum_by-cons, sum_by-le, sum_by-le-sum_by}
+use Rattle.std.proofs.Common.{ℕ, ◌+◌, ◌*◌, ◌/◌, ◌-ℤ◌, ◌≡◌, ◌≤◌, ◌<◌, refl, ap, ◌∙◌, subst, List, [], ◌∷◌, map, sum_by, length, pos, ap₂, arith}
+use Rattle.std.proofs.lemmas.List.Sums.{sum_by-le, sum_by-le-sum_by}
 use Rattle.std.proofs.lemmas.List.FromFn.{length-map-range_with_len}
-use Rattle.std.proofs.lemmas.List.Concat.{length-flat_map}
 use Rattle.std.proofs.lemmas.Int.{ints}
 use Rattle.std.proofs.lemmas.List.{length-map}
 use Rattle.std.proofs.Math.Nat.{zero-div, div-le_of_le-mul, le-div_iff_mul-le, div-mul-le_self, mul-pos, le_trans}
@@ -10,6 +9,7 @@ use mathlib.Core.Path.{fun_ext}
 use Rattle.xs_pixel.specs.Channels.{Channels, clear, IsPixel}
 use Rattle.xs_meaning.specs.Points.{Point, point, plus, minus, span, square}
 use Rattle.xs_meaning.specs.Rows.{Image, mean_of, blurred}
+use Rattle.xs_meaning.proofs.Lists.{length-flat_map_even}
 
 sum_by-zero : {X : Type 0} (xs : List X) → sum_by (λ x. 0) xs ≡ 0
 sum_by-zero [] = refl
@@ -48,18 +48,11 @@ side_is_positive n = omega arith
 length-span : (n : ℕ) → length (span n) ≡ 2 * n + 1
 length-span n = length-map-range_with_len (λ k. pos k -ℤ pos n) 0 (2 * n + 1)
 
-rows_of_points : (xs : List ℤ) (ys : List ℤ) → sum_by (λ j. length (map (λ i. point i j) xs)) ys ≡ length ys * length xs
-rows_of_points xs [] = sym (zero-mul (length xs))
-rows_of_points xs (j ∷ ys) =
-    sum_by-cons (λ j. length (map (λ i. point i j) xs)) j ys
-    ∙ ap₂ (λ a b. a + b) (length-map xs (λ i. point i j)) (rows_of_points xs ys)
-    ∙ omega (arith, suc-mul (length ys) (length xs))
-
 length-square : (n : ℕ) → length (square n) ≡ (2 * n + 1) * (2 * n + 1)
 length-square n =
-    length-flat_map (λ j. map (λ i. point i j) (span n)) (span n)
-    ∙ rows_of_points (span n) (span n)
-    ∙ ap₂ (λ a b. a * b) (length-span n) (length-span n)
+    length-flat_map_even (λ j. map (λ i. point i j) (span n)) (2 * n + 1)
+    (λ j. length-map (span n) (λ i. point i j) ∙ length-span n) (span n)
+    ∙ ap (λ m. m * (2 * n + 1)) (length-span n)
 
 mean_le_mean :
     (f g : Channels → ℕ) (n : ℕ) (image : Image) (p : Point)

@@ -40,6 +40,13 @@ pub tint_at-same :
 tint_at-same c other row more f g =
     tint_by-same c other (style_at c row f) (style_at other more g) (get_or-tint_at c row f) (get_or-tint_at other more g)
 
+pub tint_at-any :
+    (c : ColoursRecord) (row : ℕ) (f : Dropped) (pixels : List Channels)
+    → ((style : ℕ) → get_or pixels style clear ≡ style_at c row f style) → without_clear_end pixels ≡ tint_at c row f
+tint_at-any c row f pixels same =
+    without_clear_end-same pixels (tint_at c row f) (λ i. same i ∙ sym (get_or-tint_at c row f i))
+    ∙ without_clear_end-twice (pixels_by c (style_at c row f))
+
 pub tint_by-written_same :
     (c other : ColoursRecord) → ((style : ℕ) → as_written c style ≡ as_written other style)
     → tint_by c (as_written c) ≡ tint_by other (as_written other)

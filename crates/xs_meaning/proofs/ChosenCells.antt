@@ -1,7 +1,8 @@
 -- A column shows the exposure whose rows contain a row, and nothing where there is none
-use Rattle.std.proofs.Common.{ℕ, ◌-◌, ◌≡◌, refl, sym, ap, ◌∙◌, Bool, true, false, cond, true≢false, Option, Some, None, List, [], ◌∷◌, find, All, IfSome, Contains}
+use Rattle.std.proofs.Common.{ℕ, ◌-◌, ◌≡◌, refl, sym, ap, ◌∙◌, Bool, true, false, cond, true≢false, Option, Some, None, List, [], ◌∷◌, find, All, IfSome, Contains, MatchOption}
 use Rattle.std.specs.Option.{option_map_or}
 use Rattle.std.proofs.lemmas.List.Elements.{All-head, All-tail, All-nil, All-cons, All-contains, All-contains_itself}
+use Rattle.xs_scene.specs.declared.seen.Seen.{Seen}
 use Rattle.xs_scene.specs.declared.seen.Seen.TheVariants.{Empty}
 use Rattle.xs_scene.specs.Records.{ColumnRecord, ExposureRecord}
 use Rattle.xs_meaning.specs.Cells.{covers, shown_after, cell_at}
@@ -47,6 +48,22 @@ find-only {X = X} test xs x among passes only =
         absurd (true≢false (sym passes ∙ All-contains (λ x. test x ≡ false) xs x (none-find test xs is) among))
     same (Some other) is in_list found_passes =
         ap Some (All-contains (λ other. test other ≡ true → other ≡ x) xs other only in_list found_passes)
+
+pub cell_at-own :
+    (column : ColumnRecord) (row : ℕ)
+    → MatchOption (find (covers row) column.cells) (cell_at column row ≡ Empty)
+    (λ e. Contains column.cells e × (cell_at column row ≡ shown_after (row - e.from) e.shown))
+unfolding cell_at
+cell_at-own column row =
+    own (find (covers row) column.cells) (find-has (Contains column.cells) (covers row) column.cells (All-contains_itself column.cells))
+  where
+    shows : Option ExposureRecord → Seen
+    shows found = option_map_or (λ e. shown_after (row - e.from) e.shown) found Empty
+
+    own : (found : Option ExposureRecord) → IfSome found (Contains column.cells)
+        → MatchOption found (shows found ≡ Empty) (λ e. Contains column.cells e × (shows found ≡ shown_after (row - e.from) e.shown))
+    own None among = refl
+    own (Some e) among = (among, refl)
 
 pub cell_at-only :
     (column : ColumnRecord) (row : ℕ) (e : ExposureRecord) → IsOnlyAt column row e

@@ -1,7 +1,7 @@
 -- Where every way ends, more depth changes nothing, and the rules hold as equations
 use Rattle.std.proofs.Common.{ℕ, zero, suc, ◌+◌, ◌-◌, ◌≡◌, ◌≤◌, ◌<◌, refl, sym, ap, ap₂, ◌∙◌, subst, Bool, Option, Some, None, List, [], ◌∷◌, map, find, slice_get, length, All, IfSome, arith, ⊎_elim}
 use Rattle.std.specs.Option.{option_map_or}
-use Rattle.std.proofs.lemmas.Bool.{cases_lt}
+use Rattle.std.proofs.lemmas.Bool.{cases_lt, cond_both}
 use Rattle.std.proofs.lemmas.List.Elements.{All-head, All-tail}
 use Rattle.std.proofs.lemmas.Option.{slice_get_past}
 use mathlib.Core.Path.{fun_ext}
@@ -15,12 +15,12 @@ use Rattle.xs_scene.specs.declared.node.Node.{Node}
 use Rattle.xs_scene.specs.declared.node.Node.TheVariants.{Pair, Card, Shuffle, Blur, Keep, Delete}
 use Rattle.xs_scene.specs.Records.{SheetRecord, ColumnRecord, ExposureRecord}
 use Rattle.xs_meaning.specs.Cells.{cell_at, covers, shown_after}
-use Rattle.xs_meaning.specs.Ends.{InputsHave, NodesEnd, ShownHas, SheetsEnd, PegsEnd, AllEnd}
+use Rattle.xs_meaning.specs.Ends.{InputsHave, NodesEnd, ShownHas, SeenHas, SheetsEnd, PegsEnd, AllEnd}
 use Rattle.xs_meaning.specs.Palettes.{Dropped, keeping, deleting}
 use Rattle.xs_meaning.specs.Places.{place_up, place_of, peg_at, own_offset}
 use Rattle.xs_meaning.specs.Points.{plus}
 use Rattle.xs_meaning.specs.Walk.{Reading, Rows, Inputs, sheet_at, column_at, no_column, terminals_of, seen_by, column_by, listed_by, node_by, walk, depth_of, composed_by, row_by, row_walk, whole_row, whole_input}
-use Rattle.xs_meaning.proofs.Lists.{by_test, All-slice_index_or}
+use Rattle.xs_meaning.proofs.Lists.{All-slice_index_or}
 
 -- two answers for the same inputs at every row under every dropped styles
 abbrev SameInput : {A : Type 0} → Inputs A → Inputs A → Ref → Type 0
@@ -78,16 +78,10 @@ walk-deeper R rows k (suc m) (suc more) le (ToNode n) ends row f =
     (InputsHave-map (NodesEnd k m) (SameInput (walk R rows k (suc more)) (walk R rows k (suc m)))
     (λ t. walk-deeper R rows k m more (omega arith) t) (slice_get k.nodes n) ends)
 
--- P holds of the sheet whose row is seen
-abbrev SeenHas : (ℕ → Type 0) → Seen → Type 0
-SeenHas P Empty = Unit {0}
-SeenHas P (Drawing level index) = Unit {0}
-SeenHas P (Row sheet row) = P sheet
-
 pub find-has : {X : Type 0} (P : X → Type 0) (test : X → Bool) (xs : List X) → All P xs → IfSome (find test xs) P
 find-has P test [] all = tt
 find-has P test (x ∷ xs) all =
-    by_test (λ o. IfSome o P) (test x) (Some x) (find test xs)
+    cond_both (test x) (Some x) (find test xs) (λ o. IfSome o P)
     (λ passes. All-head P x xs all) (λ fails. find-has P test xs (All-tail P x xs all))
 
 cell_at-has :
@@ -105,6 +99,16 @@ cell_at-has P column row all =
         → SeenHas P (option_map_or (λ e. shown_after (row - e.from) e.shown) e Empty)
     found None has = tt
     found (Some e) has = shows (row - e.from) e.shown has
+
+-- the ways from a sheet that a column sees have one sheet fewer
+pub seen-ends :
+    (sheets : List SheetRecord) (d k c row : ℕ) → SheetsEnd sheets (d + 1) k
+    → SeenHas (SheetsEnd sheets d) (cell_at (column_at (sheet_at sheets k) c) row)
+seen-ends sheets d k c row ends =
+    cell_at-has (SheetsEnd sheets d) (column_at (sheet_at sheets k) c) row
+    (All-slice_index_or (λ column. All (λ e. ShownHas (SheetsEnd sheets d) e.shown) column.cells)
+    (sheet_at sheets k).columns c no_column (λ i e lt. absurd (omega arith))
+    (unfold SheetsEnd in subst (λ (n : ℕ). SheetsEnd sheets n k) (let e : d + 1 ≡ suc d = omega arith in e) ends))
 
 -- two answers for the rows of a sheet
 abbrev SameRows : {A : Type 0} → Rows A → Rows A → ℕ → Type 0

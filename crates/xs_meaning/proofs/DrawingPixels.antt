@@ -1,5 +1,6 @@
 -- The pixels of a scene in range, under pictures of pixels, are pixels
 use Rattle.std.proofs.Common.{ℕ, ◌==◌, ◌||◌, nat_le, ◌&&◌, Option, Some, None, List, map, filter, slice_get, All, IfSome, option_map, option_and_then, arith}
+use Rattle.std.proofs.lemmas.Bool.{cond_both}
 use Rattle.std.specs.Option.{option_map_or}
 use Rattle.std.proofs.lemmas.List.Elements.{All-filter, All-map}
 use Rattle.xs_pixel.specs.Channels.{Channels, clear, IsPixel}
@@ -12,12 +13,12 @@ use Rattle.xs_scene.specs.declared.level.Kind.{Kind}
 use Rattle.xs_scene.specs.declared.level.Kind.TheVariants.{Colour, Cm32}
 use Rattle.xs_scene.specs.Records.{SceneRecord, LevelRecord, ColoursRecord, StyleKeyRecord}
 use Rattle.xs_meaning.specs.Points.{Point}
-use Rattle.xs_meaning.specs.Palettes.{Colouring, Dropped, pixel_of, style_at, key_at, keyed}
+use Rattle.xs_meaning.specs.Palettes.{Colouring, Dropped, pixel_of, style_at, key_at, keyed, keyed_pixel}
 use Rattle.xs_meaning.specs.Drawings.{Pictures, level_of, palette_of, colours_of, no_colours, pixels_in, words_in, drawing_pixel, colouring_at}
 use Rattle.xs_scene.specs.InRange.{IsStyle, ColoursInRange, IsInRange}
 use Rattle.xs_meaning.specs.Drawings.{HoldsPixels, ArePixels}
 use Rattle.xs_meaning.proofs.KeyLemmas.{latest-has}
-use Rattle.xs_meaning.proofs.Lists.{by_test, All-slice_get, All-slice_index_or}
+use Rattle.xs_meaning.proofs.Lists.{All-slice_get, All-slice_index_or}
 
 pub IsPixel-clear : IsPixel clear
 IsPixel-clear = record { red = omega arith; green = omega arith; blue = omega arith; top = omega arith }
@@ -36,8 +37,8 @@ IsPixel-option g (Some style) pixel bytes = pixel style bytes
 pub IsPixel-style_at : (c : ColoursRecord) → ColoursInRange c → (row : ℕ) (f : Dropped) (style : ℕ) → IsPixel (style_at c row f style)
 unfolding style_at
 IsPixel-style_at c bytes row f style =
-    by_test IsPixel (style == 0 || f style) clear
-    (option_map_or (λ s. pixel_of (keyed (key_at c row style) s)) (slice_get c.styles style) clear)
+    cond_both (style == 0 || f style) clear (keyed_pixel (key_at c row style) (slice_get c.styles style))
+    IsPixel
     (λ passes. IsPixel-clear)
     (λ fails.
     IsPixel-option (λ s. pixel_of (keyed (key_at c row style) s)) (slice_get c.styles style)
@@ -54,7 +55,7 @@ IsPixel-style_at c bytes row f style =
 at_point-has : {X : Type 0} (P : X → Type 0) (q : Picture) (items : List X) (outside : X) (p : Point) → P outside → All P items → P (at_point q items outside p.x p.y)
 unfolding at_point
 at_point-has P q items outside p beyond all =
-    by_test P (is_in_box q.x0 q.y0 q.w q.h p.x p.y) _ outside
+    cond_both (is_in_box q.x0 q.y0 q.w q.h p.x p.y) _ outside P
     (λ passes. All-slice_index_or P items (place_in_box q.x0 q.y0 q.w p.x p.y) outside beyond all)
     (λ fails. beyond)
 

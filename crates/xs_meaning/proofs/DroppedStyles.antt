@@ -4,7 +4,7 @@ use Rattle.std.specs.Option.{option_map_or}
 use Rattle.xs_pixel.specs.Channels.{clear}
 use Rattle.xs_scene.specs.Records.{ColoursRecord}
 use Rattle.xs_meaning.specs.Palettes.{Dropped, deleting, keeping, is_listed, style_at, pixel_of, keyed, key_at}
-use Rattle.xs_meaning.proofs.Lists.{or_false, and_false}
+use Rattle.std.proofs.Math.Bool.{or-false, and-false}
 use Rattle.xs_meaning.proofs.UnusedStyles.{style_at-dropped}
 
 or_true : (b : Bool) → (b || true) ≡ true
@@ -28,14 +28,14 @@ deleted c row style styles f listed =
 pub not_deleted : (c : ColoursRecord) (row style : ℕ) (styles : List ℕ) (f : Dropped) → is_listed styles style ≡ false
     → style_at c row (deleting styles f) style ≡ style_at c row f style
 not_deleted c row style styles f unlisted =
-    style_at-dropped c row (deleting styles f) f style (ap (λ b. f style || b) unlisted ∙ or_false (f style))
+    style_at-dropped c row (deleting styles f) f style (ap (λ b. f style || b) unlisted ∙ or-false (f style))
 
 pub kept : (c : ColoursRecord) (row style : ℕ) (styles : List ℕ) (f : Dropped) → is_listed styles style ≡ true
     → style_at c row (keeping styles f) style ≡ style_at c row f style
 kept c row style styles f listed =
     style_at-dropped c row (keeping styles f) f style
     (ap (λ b. f style || (nat_lt style 4096 && not b)) listed
-    ∙ (ap (λ b. f style || b) (and_false (nat_lt style 4096)) ∙ or_false (f style)))
+    ∙ (ap (λ b. f style || b) (and-false (nat_lt style 4096)) ∙ or-false (f style)))
 
 pub not_kept : (c : ColoursRecord) (row style : ℕ) (styles : List ℕ) (f : Dropped) → style < 4096 → is_listed styles style ≡ false
     → style_at c row (keeping styles f) style ≡ clear

@@ -1,5 +1,6 @@
 -- The extent of an expression is that of what it was made from, whatever the offset
 use Rattle.std.proofs.Common.{ℕ, max, ◌≡◌, refl, sym, ap, ap₂, ◌∙◌, Bool, true, false, cond, Option, Some, None, is_none, unwrap_or}
+use Rattle.std.proofs.lemmas.Bool.{cond_both}
 use Rattle.xs_pixel.specs.Channels.{Channels}
 use Rattle.xs_pixel.specs.declared.operation.Op.{Op}
 use Rattle.xs_scene.specs.declared.node.Ref.{Ref}
@@ -9,9 +10,8 @@ use Rattle.xs_meaning.specs.Expressions.{Expr, Clear, Leaf, Tinted, Card, Pair, 
 use Rattle.xs_meaning.specs.Extents.{extent_of, extent_staying, wider, by_extent}
 use Rattle.xs_meaning.specs.Palettes.{Dropped, keeping, deleting, is_as_written, is_clear_pixel, pixel_of, tint_at}
 use Rattle.xs_meaning.specs.Points.{Point, plus}
-use Rattle.xs_meaning.specs.Walk.{sheet_at, whole_row, whole_input, depth_of}
-use Rattle.xs_meaning.proofs.Agree.{Agrees, row_walk-agrees, walk-agrees, meets-any}
-use Rattle.xs_meaning.proofs.Lists.{by_test}
+use Rattle.xs_meaning.specs.Walk.{sheet_at, whole_row, whole_input}
+use Rattle.xs_meaning.proofs.Agree.{Agrees, whole_row-agrees, whole_input-agrees, meets-any}
 
 pub is_none-extent_of : (e : Expr) → is_none (extent_of e) ≡ is_clear e
 is_none-extent_of Clear = refl
@@ -67,7 +67,7 @@ extent-leaf_by :
     (c : Option ColoursRecord) (d row : ℕ) (f : Dropped) (at : Point) → extent_of (leaf_by c d row f at) ≡ Some 0
 extent-leaf_by None d row f at = refl
 extent-leaf_by (Some c) d row f at =
-    by_test (λ e. extent_of e ≡ Some 0) (is_as_written c row f) (Leaf d at) (Tinted d at (tint_at c row f))
+    cond_both (is_as_written c row f) (Leaf d at) (Tinted d at (tint_at c row f)) (λ e. extent_of e ≡ Some 0)
     (λ passes. refl) (λ fails. refl)
 
 abbrev HasExtent : (Point → Expr) → Option ℕ → Type 0
@@ -97,17 +97,12 @@ pub extent-row_expr :
     (s : SceneRecord) (k row : ℕ) (f : Dropped) (o : Point)
     → extent_of (row_expr s k row f o) ≡ whole_row by_extent s.sheets k row f
 extent-row_expr s k row f =
-    row_walk-agrees (by_offsets s) by_extent (λ d e extent. HasExtent e extent) (λ f g. f ≡ g)
-    (λ style. Unit {0}) (λ q. Unit {0}) (agrees s) s.sheets (λ j. meets-any (sheet_at s.sheets j))
-    16 k row f f refl
+    whole_row-agrees (by_offsets s) by_extent (λ d e extent. HasExtent e extent) (λ f g. f ≡ g)
+    (λ style. Unit {0}) (λ q. Unit {0}) (agrees s) s.sheets (λ j. meets-any (sheet_at s.sheets j)) k row f f refl
 
 pub extent-input_expr :
     (s : SceneRecord) (k : ℕ) (n : Ref) (row : ℕ) (f : Dropped) (o : Point)
     → extent_of (input_expr s k n row f o) ≡ whole_input by_extent s.sheets k n row f
 extent-input_expr s k n row f =
-    walk-agrees (by_offsets s) by_extent (λ d e extent. HasExtent e extent) (λ f g. f ≡ g)
-    (λ style. Unit {0}) (λ q. Unit {0}) (agrees s)
-    16 (whole_row (by_offsets s) s.sheets) (whole_row by_extent s.sheets)
-    (row_walk-agrees (by_offsets s) by_extent (λ d e extent. HasExtent e extent) (λ f g. f ≡ g)
-    (λ style. Unit {0}) (λ q. Unit {0}) (agrees s) s.sheets (λ j. meets-any (sheet_at s.sheets j)) 16)
-    (sheet_at s.sheets k) (meets-any (sheet_at s.sheets k)) (depth_of (sheet_at s.sheets k)) n row f f refl
+    whole_input-agrees (by_offsets s) by_extent (λ d e extent. HasExtent e extent) (λ f g. f ≡ g)
+    (λ style. Unit {0}) (λ q. Unit {0}) (agrees s) s.sheets (λ j. meets-any (sheet_at s.sheets j)) k n row f f refl

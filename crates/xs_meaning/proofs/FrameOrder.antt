@@ -1,5 +1,5 @@
 -- Where the pixels of a frame stand
-use Rattle.std.proofs.Common.{ℕ, suc, ◌≡◌, ◌+◌, ◌*◌, ◌<◌, pos, sym, ap, ◌∙◌, subst, List, [], ◌∷◌, length, map, flat_map, take, get_or, length-append, arith}
+use Rattle.std.proofs.Common.{ℕ, ◌≡◌, ◌+◌, ◌*◌, ◌<◌, pos, sym, ap, ◌∙◌, subst, List, length, map, flat_map, take, get_or, arith}
 use Rattle.std.specs.List.{range_with_len}
 use Rattle.std.proofs.lemmas.List.{length-take-le}
 use Rattle.std.proofs.lemmas.List.Concat.{get_or-flat_map}
@@ -9,19 +9,13 @@ use Rattle.xs_scene.specs.Records.{SceneRecord}
 use Rattle.xs_meaning.specs.Drawings.{Pictures}
 use Rattle.xs_meaning.specs.Points.{point}
 use Rattle.xs_meaning.specs.Rows.{frame_of, frame_pixel}
+use Rattle.xs_meaning.proofs.Lists.{length-flat_map_even}
 
 module _ {A : Type 0} (line : ℕ → List A) (w : ℕ) (long : (y : ℕ) → length (line y) ≡ w) where
-  lines_long : (ys : List ℕ) → length (flat_map line ys) ≡ length ys * w
-  lines_long [] = omega arith
-  lines_long (y ∷ ys) =
-      let rest = lines_long ys in
-      let one : suc (length ys) * w ≡ w + length ys * w = omega arith in
-      length-append (line y) (flat_map line ys) ∙ (ap (λ n. n + length (flat_map line ys)) (long y) ∙ (ap (λ n. w + n) rest ∙ sym one))
-
   in_line : (ys : List ℕ) (i j e : ℕ) (outside : A) → i < length ys → j < w
       → get_or (flat_map line ys) (i * w + j) outside ≡ get_or (line (get_or ys i e)) j outside
   in_line ys i j e outside within along =
-      let before : length (flat_map line (take i ys)) ≡ i * w = lines_long (take i ys) ∙ ap (λ n. n * w) (length-take-le i ys (omega arith)) in
+      let before : length (flat_map line (take i ys)) ≡ i * w = length-flat_map_even line w long (take i ys) ∙ ap (λ n. n * w) (length-take-le i ys (omega arith)) in
       ap (λ n. get_or (flat_map line ys) (n + j) outside) (sym before)
       ∙ get_or-flat_map line ys i j e outside within (subst (λ n. j < n) (sym (long (get_or ys i e))) along)
 
@@ -34,7 +28,7 @@ line_long s pictures row y = length-map-range_with_len (λ x. frame_pixel s pict
 
 pub length-frame_of : (s : SceneRecord) (pictures : Pictures) (row : ℕ) → length (frame_of s pictures row) ≡ s.camera.h * s.camera.w
 length-frame_of s pictures row =
-    lines_long (line_of s pictures row) s.camera.w (line_long s pictures row) (range_with_len 0 s.camera.h)
+    length-flat_map_even (line_of s pictures row) s.camera.w (line_long s pictures row) (range_with_len 0 s.camera.h)
     ∙ ap (λ n. n * s.camera.w) (length-range_with_len 0 s.camera.h)
 
 pub frame_of-at : (s : SceneRecord) (pictures : Pictures) (row x y : ℕ) (outside : Channels) → x < s.camera.w → y < s.camera.h

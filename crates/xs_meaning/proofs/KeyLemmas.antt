@@ -1,18 +1,19 @@
 -- The key that is chosen from a list is one of it
-use Rattle.std.proofs.Common.{ℕ, ◌≡◌, ◌≤◌, refl, sym, subst, Bool, true, false, cond, nat_lt, Option, Some, None, List, [], ◌∷◌, All, IfSome, le_refl, le_trans, le_of_lt, ltb-true, ltb-false, filter, ◌∙◌, true≢false}
-use Rattle.std.proofs.lemmas.List.Elements.{All-head, All-tail, All-nil, All-cons, All-weaker}
-use Rattle.xs_meaning.specs.Keys.{later, earlier, latest, earliest}
-use Rattle.xs_meaning.proofs.Lists.{by_test}
+use Rattle.std.proofs.Common.{ℕ, ◌+◌, ◌<◌, ◌++◌, length, take, get_or, append-nil, ap, arith, ◌≡◌, ◌≤◌, refl, sym, subst, Bool, true, false, cond, nat_lt, Option, Some, None, List, [], ◌∷◌, All, IfSome, le_refl, le_trans, le_of_lt, ltb-true, ltb-false, filter, ◌∙◌, true≢false}
+use Rattle.std.proofs.lemmas.Bool.{cond_both}
+use Rattle.std.proofs.lemmas.Bool.Decides.{nat_tests}
+use Rattle.std.proofs.lemmas.List.Elements.{All-head, All-tail, All-nil, All-cons, All-weaker, filter_more}
+use Rattle.xs_meaning.specs.Keys.{later, earlier, latest, earliest, newest, nearest}
 
 later-has : {K : Type 0} (P : K → Type 0) (row : K → ℕ) (k : K) (best : Option K) → P k → IfSome best P → P (later row k best)
 later-has P row k None here rest = here
 later-has P row k (Some best) here rest =
-    by_test P (nat_lt (row k) (row best)) best k (λ passes. rest) (λ fails. here)
+    cond_both (nat_lt (row k) (row best)) best k P (λ passes. rest) (λ fails. here)
 
 earlier-has : {K : Type 0} (P : K → Type 0) (row : K → ℕ) (k : K) (best : Option K) → P k → IfSome best P → P (earlier row k best)
 earlier-has P row k None here rest = here
 earlier-has P row k (Some best) here rest =
-    by_test P (nat_lt (row best) (row k)) best k (λ passes. rest) (λ fails. here)
+    cond_both (nat_lt (row best) (row k)) best k P (λ passes. rest) (λ fails. here)
 
 pub latest-has : {K : Type 0} (P : K → Type 0) (row : K → ℕ) (ks : List K) → All P ks → IfSome (latest row ks) P
 latest-has P row [] all = tt
@@ -103,3 +104,34 @@ filter-All {X = X} P test (x ∷ xs) all = split (test x) refl (filter-All P tes
 pub filter-none : {X : Type 0} (test : X → Bool) (xs : List X) → filter test xs ≡ [] → All (λ x. test x ≡ true → ⊥) xs
 filter-none test xs none =
     filter-All (λ x. ⊥) test xs (subst (All (λ x. ⊥)) (sym none) (All-nil (λ x. ⊥)))
+
+-- ---- one key more
+
+later-newest : {K : Type 0} (row : K → ℕ) (x k : K) (o : Option K) → later row x (Some (newest row o k)) ≡ newest row (Some (later row x o)) k
+later-newest row x k None = refl
+later-newest row x k (Some b) = grind (arith, nat_tests)
+
+pub latest-push : {K : Type 0} (row : K → ℕ) (xs : List K) (k : K) → latest row (xs ++ k ∷ []) ≡ Some (newest row (latest row xs) k)
+latest-push row [] k = refl
+latest-push row (x ∷ xs) k = ap (λ o. Some (later row x o)) (latest-push row xs k) ∙ ap Some (later-newest row x k (latest row xs))
+
+earlier-nearest : {K : Type 0} (row : K → ℕ) (x k : K) (o : Option K) → earlier row x (Some (nearest row o k)) ≡ nearest row (Some (earlier row x o)) k
+earlier-nearest row x k None = refl
+earlier-nearest row x k (Some b) = grind (arith, nat_tests)
+
+pub earliest-push : {K : Type 0} (row : K → ℕ) (xs : List K) (k : K) → earliest row (xs ++ k ∷ []) ≡ Some (nearest row (earliest row xs) k)
+earliest-push row [] k = refl
+earliest-push row (x ∷ xs) k = ap (λ o. Some (earlier row x o)) (earliest-push row xs k) ∙ ap Some (earlier-nearest row x k (earliest row xs))
+
+-- a choice among the keys that pass a test, where one more key is met
+pub choice-more :
+    {K : Type 0} (choice : List K → Option K) (next : Option K → K → K)
+    → ((xs : List K) (k : K) → choice (xs ++ k ∷ []) ≡ Some (next (choice xs) k))
+    → (p : K → Bool) (xs : List K) (i : ℕ) (x : K) → i < length xs → x ≡ get_or xs i x
+    → choice (filter p (take (i + 1) xs)) ≡ cond (p x) (Some (next (choice (filter p (take i xs))) x)) (choice (filter p (take i xs)))
+choice-more {K = K} choice next push p xs i x within is =
+    ap choice (filter_more p xs i x within ∙ ap (λ k. filter p (take i xs) ++ cond (p k) (k ∷ []) []) (sym is)) ∙ grown (p x)
+  where
+    grown : (b : Bool) → choice (filter p (take i xs) ++ cond b (x ∷ []) []) ≡ cond b (Some (next (choice (filter p (take i xs))) x)) (choice (filter p (take i xs)))
+    grown true = push (filter p (take i xs)) x
+    grown false = ap choice (append-nil (filter p (take i xs)))

@@ -1,5 +1,6 @@
 -- The offsets of the drawings of an expression stay bounded
 use Rattle.std.proofs.Common.{ℕ, suc, ◌+◌, ◌*◌, ◌^◌, ◌≡◌, refl, ap, subst, Option, Some, None, arith}
+use Rattle.std.proofs.lemmas.Bool.{cond_both}
 use Rattle.std.proofs.lemmas.Int.{ints}
 use Rattle.xs_pixel.specs.declared.operation.Op.{Op}
 use Rattle.xs_scene.specs.Records.{SceneRecord, ColoursRecord}
@@ -11,8 +12,7 @@ use Rattle.xs_meaning.specs.Palettes.{Dropped, none_dropped, keeping, deleting, 
 use Rattle.xs_meaning.specs.Points.{Point, plus, opposite}
 use Rattle.xs_meaning.specs.Rows.{camera_at}
 use Rattle.xs_meaning.specs.Walk.{sheet_at, column_at}
-use Rattle.xs_meaning.proofs.Agree.{Agrees, Meets, row_walk-agrees}
-use Rattle.xs_meaning.proofs.Lists.{by_test}
+use Rattle.xs_meaning.proofs.Agree.{Agrees, Meets, whole_row-agrees}
 use Rattle.xs_meaning.proofs.SheetRanges.{sheet_at-in_range}
 use Rattle.xs_meaning.proofs.Offsets.{plus-within, IsWithin-more, place_of-within}
 
@@ -42,7 +42,7 @@ LeavesWithin-leaf_by :
     → LeavesWithin n (leaf_by c d row f at)
 LeavesWithin-leaf_by n None d row f at here = here
 LeavesWithin-leaf_by n (Some c) d row f at here =
-    by_test (LeavesWithin n) (is_as_written c row f) (Leaf d at) (Tinted d at (tint_at c row f))
+    cond_both (is_as_written c row f) (Leaf d at) (Tinted d at (tint_at c row f)) (LeavesWithin n)
     (λ passes. here) (λ fails. here)
 
 agrees :
@@ -62,7 +62,7 @@ agrees s =
           (let sum : b + 2 ^ 22 + d * 2 ^ 22 ≡ b + suc d * 2 ^ 22 = omega arith in sum)
           (at (b + 2 ^ 22) (plus o q) (plus-within b (2 ^ 22) o q here place));
       card = λ d style bytes b o here.
-          by_test (LeavesWithin (b + d * 2 ^ 22)) (is_clear_pixel (pixel_of style)) Clear (Card (pixel_of style))
+          cond_both (is_clear_pixel (pixel_of style)) Clear (Card (pixel_of style)) (LeavesWithin (b + d * 2 ^ 22))
           (λ passes. tt) (λ fails. tt);
       pair = λ d op x x' y y' first second b o here.
           LeavesWithin-pair_staying (b + d * 2 ^ 22) (staying op (is_clear (x o)) (is_clear (x' o))) op (x o) (x' o)
@@ -85,8 +85,8 @@ pub LeavesWithin-row_expr :
     (s : SceneRecord) → IsInRange s → (k row : ℕ) (f : Dropped) (b : ℕ) (o : Point) → IsWithin b o
     → LeavesWithin (b + 2 ^ 26) (row_expr s k row f o)
 LeavesWithin-row_expr s range k row f =
-    row_walk-agrees (by_offsets s) (by_offsets s) (λ d e same. IsBounded d e) (λ f g. f ≡ g)
-    (λ style. Unit {0}) (IsWithin (2 ^ 22)) (agrees s) s.sheets (meets s range) 16 k row f f refl
+    whole_row-agrees (by_offsets s) (by_offsets s) (λ d e same. IsBounded d e) (λ f g. f ≡ g)
+    (λ style. Unit {0}) (IsWithin (2 ^ 22)) (agrees s) s.sheets (meets s range) k row f f refl
 
 opposite-within : (n : ℕ) (p : Point) → IsWithin n p → IsWithin n (opposite p)
 opposite-within n p here =

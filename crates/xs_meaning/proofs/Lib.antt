@@ -1,24 +1,24 @@
 pub mod Agree
 pub mod Lists
-pub mod Tints
-pub mod SheetRanges
+mod Tints
+mod SheetRanges
 pub mod KeyLemmas
-pub mod ChosenKeys
-pub mod Blurs
-pub mod DrawingPixels
-pub mod Vanishing
-pub mod SameValue
+mod ChosenKeys
+mod Blurs
+mod DrawingPixels
+mod Vanishing
+mod SameValue
 pub mod Depth
-pub mod Offsets
-pub mod LeafOffsets
-pub mod StateLemmas
-pub mod TableLemmas
-pub mod ExtentLemmas
-pub mod Canonical
-pub mod SamePixels
-pub mod UnusedStyles
-pub mod ChosenCells
-pub mod OwnDrawings
-pub mod StyleKeys
-pub mod DroppedStyles
-pub mod FrameOrder
+mod Offsets
+mod LeafOffsets
+mod StateLemmas
+mod TableLemmas
+mod ExtentLemmas
+mod Canonical
+mod SamePixels
+mod UnusedStyles
+mod ChosenCells
+mod OwnDrawings
+mod StyleKeys
+mod DroppedStyles
+mod FrameOrder

@@ -1,5 +1,5 @@
 -- Lemmas on lists, options and tests that std lacks
-use Rattle.std.proofs.Common.{ℕ, zero, suc, ◌≡◌, refl, Bool, true, false, cond, List, [], ◌∷◌, map, slice_get, get_or, All, IfSome, arith, ◌&&◌, ◌||◌}
+use Rattle.std.proofs.Common.{ℕ, zero, suc, ◌≡◌, refl, Bool, true, false, List, [], ◌∷◌, slice_get, get_or, All, IfSome, arith, ◌&&◌, ◌*◌, ◌∙◌, length, flat_map, length-append, suc-mul}
 use Rattle.std.proofs.lemmas.List.Elements.{All-tail}
 
 -- what holds of each element holds of one by its index
@@ -14,25 +14,16 @@ All-slice_index_or P [] i d default all = default
 All-slice_index_or P (x ∷ xs) zero d default all = all 0 x (omega arith)
 All-slice_index_or P (x ∷ xs) (suc i) d default all = All-slice_index_or P xs i d default (All-tail P x xs all)
 
-pub slice_index_or-map : {X Y : Type 0} (f : X → Y) (xs : List X) (i : ℕ) (d : X) → get_or (map f xs) i (f d) ≡ f (get_or xs i d)
-slice_index_or-map f [] i d = refl
-slice_index_or-map f (x ∷ xs) zero d = refl
-slice_index_or-map f (x ∷ xs) (suc i) d = slice_index_or-map f xs i d
-
 pub both_true : (a b : Bool) → (a && b) ≡ true → (a ≡ true) × (b ≡ true)
 both_true true true same = (refl, refl)
 both_true true false same = cc
 both_true false b same = cc
 
--- a choice whose two sides have a fact under what the test says
-pub by_test : {X : Type 0} (P : X → Type 0) (b : Bool) (x y : X) → (b ≡ true → P x) → (b ≡ false → P y) → P (cond b x y)
-by_test P true x y passes fails = passes refl
-by_test P false x y passes fails = fails refl
-
-pub or_false : (b : Bool) → (b || false) ≡ b
-or_false true = refl
-or_false false = refl
-
-pub and_false : (b : Bool) → (b && false) ≡ false
-and_false true = refl
-and_false false = refl
+-- lists of one length, one after another
+pub length-flat_map_even :
+    {X A : Type 0} (f : X → List A) (n : ℕ) → ((x : X) → length (f x) ≡ n)
+    → (xs : List X) → length (flat_map f xs) ≡ length xs * n
+length-flat_map_even f n long [] = omega arith
+length-flat_map_even f n long (x ∷ xs) =
+    let rest = length-flat_map_even f n long xs in
+    length-append (f x) (flat_map f xs) ∙ omega (arith, long x, rest, suc-mul (length xs) n)

@@ -1,5 +1,6 @@
 -- How far pegs, and so drawings, can be moved
-use Rattle.std.proofs.Common.{ℕ, zero, suc, ◌+◌, ◌*◌, ◌/◌, ◌-◌, ◌^◌, ◌≡◌, ◌≤◌, ◌<◌, ℤ, pos, negsuc, neg_ℤ, ◌+ℤ◌, ◌-ℤ◌, ◌*ℤ◌, ◌≤ℤ◌, subst, nat_le, nat_lt, Option, Some, None, List, filter, All, IfSome, ◌⊎◌, inl, inr, ⊎_elim, mul_comm, arith, leb-true, ltb-true}
+use Rattle.std.proofs.Common.{ℕ, zero, suc, ◌+◌, ◌*◌, ◌/◌, ◌-◌, ◌^◌, ◌≡◌, ◌≤◌, ◌<◌, ℤ, pos, negsuc, neg_ℤ, ◌-ℤ◌, ◌*ℤ◌, ◌≤ℤ◌, subst, nat_le, nat_lt, Option, Some, None, List, filter, All, IfSome, inl, inr, ⊎_elim, mul_comm, arith, leb-true, ltb-true}
+use Rattle.std.proofs.lemmas.Bool.{cond_both}
 use Rattle.std.specs.Int.{int_div_euclid}
 use Rattle.std.proofs.Math.Nat.{zero-div, div-le_of_le-mul, div-lt_iff_lt-mul, mul-le-mul_left}
 use Rattle.std.proofs.lemmas.Int.{ints}
@@ -8,27 +9,24 @@ use Rattle.xs_scene.specs.Records.{PegKeyRecord, SheetRecord}
 use Rattle.xs_scene.specs.InRange.{PegInRange}
 use Rattle.xs_scene.specs.Ranges.{IsOffset, IsPegKey}
 use Rattle.xs_meaning.specs.Bounds.{IsWithin}
-use Rattle.xs_meaning.specs.Places.{key_in_force, key_after, on_line, offset_by, own_offset, place_up, place_of, peg_at, no_peg}
+use Rattle.xs_meaning.specs.Places.{key_in_force, key_after, on_line, LiesBetween, offset_by, own_offset, place_up, place_of, peg_at, no_peg}
 use Rattle.xs_meaning.specs.Points.{Point, point, origin, plus}
 use Rattle.xs_meaning.proofs.KeyLemmas.{latest-has, earliest-has}
-use Rattle.xs_meaning.proofs.Lists.{by_test, All-slice_index_or}
-
--- a part of a distance lies between nothing and the distance
-abbrev IsPart : ℤ → ℤ → Type 0
-IsPart distance part = ((pos 0 ≤ℤ part) × (part ≤ℤ distance)) ⊎ ((distance ≤ℤ part) × (part ≤ℤ pos 0))
+use Rattle.xs_meaning.proofs.Lists.{All-slice_index_or}
 
 part_backwards :
     (n product whole : ℕ) → product ≤ suc n * whole → 0 < whole
-    → IsPart (negsuc n) (int_div_euclid (neg_ℤ (pos product)) (pos whole))
+    → LiesBetween (pos 0) (negsuc n) (int_div_euclid (neg_ℤ (pos product)) (pos whole))
 part_backwards n zero whole le positive =
     let none : 0 / whole ≡ 0 = zero-div whole in inr (omega (arith, ints), omega (arith, ints))
 part_backwards n (suc m) whole le positive =
     let less : m / whole < suc n = (div-lt_iff_lt-mul positive).1 (omega arith) in
     inr (omega (arith, ints), omega (arith, ints))
 
+-- a part of a distance lies between nothing and the distance
 part_of_distance :
     (distance : ℤ) (done whole : ℕ) → done ≤ whole → 0 < whole
-    → IsPart distance (int_div_euclid (distance *ℤ pos done) (pos whole))
+    → LiesBetween (pos 0) distance (int_div_euclid (distance *ℤ pos done) (pos whole))
 part_of_distance (pos n) done whole le positive =
     let most : n * done / whole ≤ n =
     div-le_of_le-mul whole (subst (λ x. n * done ≤ x) (mul_comm n whole) (mul-le-mul_left n le)) in
@@ -36,19 +34,19 @@ part_of_distance (pos n) done whole le positive =
 part_of_distance (negsuc n) done whole le positive =
     part_backwards n (suc n * done) whole (mul-le-mul_left (suc n) le) positive
 
+pub on_line-between :
+    (from to : ℤ) (done whole : ℕ) → done ≤ whole → 0 < whole → LiesBetween from to (on_line from to done whole)
+unfolding on_line
+on_line-between from to done whole le positive =
+    ⊎_elim (λ h. inl (omega (arith, ints, h), omega (arith, ints, h))) (λ h. inr (omega (arith, ints, h), omega (arith, ints, h)))
+    (part_of_distance (to -ℤ from) done whole le positive)
+
 abbrev IsBetween : ℕ → ℤ → Type 0
 IsBetween n x = (neg_ℤ (pos n) ≤ℤ x) × (x ≤ℤ pos n)
 
-on_line-between :
-    (n : ℕ) (from to : ℤ) (done whole : ℕ) → done ≤ whole → 0 < whole
-    → IsBetween n from → IsBetween n to → IsBetween n (on_line from to done whole)
-unfolding on_line
-on_line-between n from to done whole le positive start end =
-    let part : ℤ = int_div_euclid ((to -ℤ from) *ℤ pos done) (pos whole) in
-    between part (part_of_distance (to -ℤ from) done whole le positive)
-  where
-    between : (part : ℤ) → IsPart (to -ℤ from) part → IsBetween n (from +ℤ part)
-    between part is = ⊎_elim (λ h. (omega (arith, ints), omega (arith, ints))) (λ h. (omega (arith, ints), omega (arith, ints))) is
+IsBetween-line : (n : ℕ) (from to x : ℤ) → LiesBetween from to x → IsBetween n from → IsBetween n to → IsBetween n x
+IsBetween-line n from to x is start end =
+    ⊎_elim (λ h. (omega (arith, ints), omega (arith, ints))) (λ h. (omega (arith, ints), omega (arith, ints))) is
 
 abbrev IsKeyUpTo : ℕ → PegKeyRecord → Type 0
 IsKeyUpTo row k = IsPegKey k × (k.row ≤ row)
@@ -89,14 +87,14 @@ offset_by-within None b row first next = origin-within 65536
 offset_by-within (Some a) None row first next =
     within 65536 a.x a.y (IsBetween-offset a.x first.0.x) (IsBetween-offset a.y first.0.y)
 offset_by-within (Some a) (Some b) row first next =
-    by_test (IsWithin 65536) a.line
-    (point (on_line a.x b.x (row - a.row) (b.row - a.row)) (on_line a.y b.y (row - a.row) (b.row - a.row)))
+    cond_both a.line (point (on_line a.x b.x (row - a.row) (b.row - a.row)) (on_line a.y b.y (row - a.row) (b.row - a.row)))
     (point a.x a.y)
+    (IsWithin 65536)
     (λ passes.
     within 65536 (on_line a.x b.x (row - a.row) (b.row - a.row)) (on_line a.y b.y (row - a.row) (b.row - a.row))
-    (on_line-between 65536 a.x b.x (row - a.row) (b.row - a.row) (omega (arith, first.1, next.1)) (omega (arith, first.1, next.1))
+    (IsBetween-line 65536 a.x b.x (on_line a.x b.x (row - a.row) (b.row - a.row)) (on_line-between a.x b.x (row - a.row) (b.row - a.row) (omega (arith, first.1, next.1)) (omega (arith, first.1, next.1)))
     (IsBetween-offset a.x first.0.x) (IsBetween-offset b.x next.0.x))
-    (on_line-between 65536 a.y b.y (row - a.row) (b.row - a.row) (omega (arith, first.1, next.1)) (omega (arith, first.1, next.1))
+    (IsBetween-line 65536 a.y b.y (on_line a.y b.y (row - a.row) (b.row - a.row)) (on_line-between a.y b.y (row - a.row) (b.row - a.row) (omega (arith, first.1, next.1)) (omega (arith, first.1, next.1)))
     (IsBetween-offset a.y first.0.y) (IsBetween-offset b.y next.0.y)))
     (λ fails. within 65536 a.x a.y (IsBetween-offset a.x first.0.x) (IsBetween-offset a.y first.0.y))
 

@@ -1,6 +1,5 @@
 -- Filters and palette keys that leave every style its pixel change no expression
 use Rattle.std.proofs.Common.{ℕ, ◌≡◌, ◌==◌, ◌||◌, ◌&&◌, not, nat_lt, refl, sym, ap, ap₂, ◌∙◌, Bool, true, false, cond, Option, Some, None, List, slice_get, slice_index_or, option_and_then, IfSome}
-use Rattle.std.specs.Option.{option_map_or}
 use mathlib.Core.Path.{fun_ext}
 use Rattle.xs_pixel.specs.Channels.{Channels, clear}
 use Rattle.xs_scene.specs.declared.level.Kind.{Kind}
@@ -10,10 +9,10 @@ use Rattle.xs_scene.specs.Records.{SceneRecord, LevelRecord, ColoursRecord}
 use Rattle.xs_meaning.specs.Agreement.{DropsAlike, PalettesAlike}
 use Rattle.xs_meaning.specs.Drawings.{colours_of, level_of, palette_of, no_colours, number_of}
 use Rattle.xs_meaning.specs.Expressions.{Expr, Leaf, Tinted, pair_of, blur_of, leaf_by, by_offsets, row_expr, input_expr}
-use Rattle.xs_meaning.specs.Palettes.{Dropped, deleting, keeping, is_listed, style_at, as_written, same_pixels, pixel_of, keyed, key_at}
+use Rattle.xs_meaning.specs.Palettes.{Dropped, deleting, keeping, is_listed, style_at, as_written, same_pixels, keyed_pixel, key_at}
 use Rattle.xs_meaning.specs.Points.{Point, plus}
-use Rattle.xs_meaning.specs.Walk.{sheet_at, whole_row, depth_of}
-use Rattle.xs_meaning.proofs.Agree.{Agrees, row_walk-agrees, walk-agrees, meets-any}
+use Rattle.xs_meaning.specs.Walk.{sheet_at}
+use Rattle.xs_meaning.proofs.Agree.{Agrees, whole_row-agrees, whole_input-agrees, meets-any}
 use Rattle.xs_meaning.proofs.Canonical.{tint_at-same, tint_by-written_same}
 
 -- from two palettes that are alike at a row, one leaf
@@ -39,13 +38,10 @@ dropped_more false false true true pixel same = refl
 dropped_more false false true false pixel same = same
 dropped_more false false false listed pixel same = refl
 
-styled : ColoursRecord → ℕ → ℕ → Channels
-styled c row style = option_map_or (λ s. pixel_of (keyed (key_at c row style) s)) (slice_get c.styles style) clear
-
 alike_with :
     (more : Dropped → Dropped) (listed : ℕ → Bool) → ((f : Dropped) (style : ℕ) → more f style ≡ (f style || listed style))
     → (s : SceneRecord) (f g : Dropped) → DropsAlike s f g → DropsAlike s (more f) (more g)
-unfolding style_at styled
+unfolding style_at
 alike_with more listed is s f g alike d row style = through (colours_of s d) (alike d row style)
   where
     through : (c : Option ColoursRecord)
@@ -53,9 +49,9 @@ alike_with more listed is s f g alike d row style = through (colours_of s d) (al
         → IfSome c (λ c. style_at c row (more f) style ≡ style_at c row (more g) style)
     through None same = tt
     through (Some c) same =
-        ap (λ b. cond (style == 0 || b) clear (styled c row style)) (is f style)
-        ∙ dropped_more (style == 0) (f style) (g style) (listed style) (styled c row style) same
-        ∙ ap (λ b. cond (style == 0 || b) clear (styled c row style)) (sym (is g style))
+        ap (λ b. cond (style == 0 || b) clear (keyed_pixel (key_at c row style) (slice_get c.styles style))) (is f style)
+        ∙ dropped_more (style == 0) (f style) (g style) (listed style) (keyed_pixel (key_at c row style) (slice_get c.styles style)) same
+        ∙ ap (λ b. cond (style == 0 || b) clear (keyed_pixel (key_at c row style) (slice_get c.styles style))) (sym (is g style))
 
 agrees_alike :
     (s : SceneRecord)
@@ -89,19 +85,16 @@ pub input_expr-alike :
     → (k : ℕ) (n : Ref) (row : ℕ) (o : Point) → input_expr s k n row f o ≡ input_expr s k n row g o
 input_expr-alike s f g alike k n row o =
     ap (λ e. e o)
-    (walk-agrees (by_offsets s) (by_offsets s) (λ d e other. e ≡ other) (DropsAlike s) (λ style. Unit {0})
-    (λ q. Unit {0}) (agrees_alike s) 16 (whole_row (by_offsets s) s.sheets) (whole_row (by_offsets s) s.sheets)
-    (row_walk-agrees (by_offsets s) (by_offsets s) (λ d e other. e ≡ other) (DropsAlike s) (λ style. Unit {0})
-    (λ q. Unit {0}) (agrees_alike s) s.sheets (λ j. meets-any (sheet_at s.sheets j)) 16)
-    (sheet_at s.sheets k) (meets-any (sheet_at s.sheets k)) (depth_of (sheet_at s.sheets k)) n row f g alike)
+    (whole_input-agrees (by_offsets s) (by_offsets s) (λ d e other. e ≡ other) (DropsAlike s) (λ style. Unit {0})
+    (λ q. Unit {0}) (agrees_alike s) s.sheets (λ j. meets-any (sheet_at s.sheets j)) k n row f g alike)
 
 pub row_expr-alike :
     (s : SceneRecord) (f g : Dropped) → DropsAlike s f g
     → (k row : ℕ) (o : Point) → row_expr s k row f o ≡ row_expr s k row g o
 row_expr-alike s f g alike k row o =
     ap (λ e. e o)
-    (row_walk-agrees (by_offsets s) (by_offsets s) (λ d e other. e ≡ other) (DropsAlike s) (λ style. Unit {0})
-    (λ q. Unit {0}) (agrees_alike s) s.sheets (λ j. meets-any (sheet_at s.sheets j)) 16 k row f g alike)
+    (whole_row-agrees (by_offsets s) (by_offsets s) (λ d e other. e ≡ other) (DropsAlike s) (λ style. Unit {0})
+    (λ q. Unit {0}) (agrees_alike s) s.sheets (λ j. meets-any (sheet_at s.sheets j)) k row f g alike)
 
 -- palettes that are alike make the same leaves
 agrees_palettes :
@@ -150,6 +143,6 @@ pub row_expr-palettes_alike :
     → row_expr s k row f o ≡ row_expr (record s { palettes = others }) k row f o
 row_expr-palettes_alike s others alike k row f o =
     ap (λ e. e o)
-    (row_walk-agrees (by_offsets s) (by_offsets (record s { palettes = others })) (λ d e other. e ≡ other)
+    (whole_row-agrees (by_offsets s) (by_offsets (record s { palettes = others })) (λ d e other. e ≡ other)
     (λ f g. f ≡ g) (λ style. Unit {0}) (λ q. Unit {0}) (agrees_palettes s others alike) s.sheets
-    (λ j. meets-any (sheet_at s.sheets j)) 16 k row f f refl)
+    (λ j. meets-any (sheet_at s.sheets j)) k row f f refl)

@@ -13,8 +13,8 @@ use Rattle.xs_meaning.specs.Drawings.{ArePixels}
 use Rattle.xs_meaning.specs.Palettes.{Dropped, none_dropped, pixel_of, keeping, deleting}
 use Rattle.xs_meaning.specs.Points.{Point, point, plus, minus, opposite}
 use Rattle.xs_meaning.specs.Rows.{Image, by_points, blurred, row_under, row_of, value_under, camera_at}
-use Rattle.xs_meaning.specs.Walk.{sheet_at, whole_row, depth_of}
-use Rattle.xs_meaning.proofs.Agree.{Agrees, Meets, row_walk-agrees, walk-agrees}
+use Rattle.xs_meaning.specs.Walk.{sheet_at}
+use Rattle.xs_meaning.proofs.Agree.{Agrees, Meets, whole_row-agrees, whole_input-agrees}
 use Rattle.xs_meaning.proofs.Blurs.{blurred-moved, IsPixel-blurred}
 use Rattle.xs_meaning.proofs.DrawingPixels.{IsPixel-clear, IsPixel-pixel_of, IsPixel-drawing_at}
 use Rattle.xs_meaning.proofs.Lists.{All-slice_get}
@@ -91,36 +91,35 @@ agrees s pictures range pixels =
       delete = λ styles f g same. ap (deleting styles) same;
     }
 
-pub meets-in_range : (s : SceneRecord) → IsInRange s → (k : ℕ) → Meets IsStyle (λ q. Unit {0}) (sheet_at s.sheets k)
+meets-in_range : (s : SceneRecord) → IsInRange s → (k : ℕ) → Meets IsStyle (λ q. Unit {0}) (sheet_at s.sheets k)
 meets-in_range s range k =
     record {
       cards = λ n style is. subst (λ node. IfSome node HasCardInRange) is (All-slice_get HasCardInRange (sheet_at s.sheets k).nodes n (sheet_at-in_range s range k).cards);
       places = λ c row. tt;
     }
 
--- at each row of each sheet, under dropped styles and any offset
+-- at each row of each sheet, under dropped styles
+same-row :
+    (s : SceneRecord) (pictures : Pictures) → IsInRange s → ArePixels pictures
+    → (k row : ℕ) (f : Dropped) → SameValue s pictures (row_under s pictures k row f) (row_expr s k row f)
+same-row s pictures range pixels k row f =
+    whole_row-agrees (by_points s pictures) (by_offsets s) (λ d image e. SameValue s pictures image e)
+    (λ f g. f ≡ g) IsStyle (λ q. Unit {0}) (agrees s pictures range pixels) s.sheets (meets-in_range s range) k row f f refl
+
 pub value-row_expr :
     (s : SceneRecord) (pictures : Pictures) → IsInRange s → ArePixels pictures
     → (k row : ℕ) (f : Dropped) (o p : Point)
     → value_of s pictures (row_expr s k row f o) p ≡ row_under s pictures k row f (minus p o)
-value-row_expr s pictures range pixels k row f o p =
-    (row_walk-agrees (by_points s pictures) (by_offsets s) (λ d image e. SameValue s pictures image e)
-    (λ f g. f ≡ g) IsStyle (λ q. Unit {0}) (agrees s pictures range pixels)
-    s.sheets (meets-in_range s range) 16 k row f f refl).same o p
+value-row_expr s pictures range pixels k row f = (same-row s pictures range pixels k row f).same
 
 -- at each column and node of each sheet
 pub value-input_expr :
     (s : SceneRecord) (pictures : Pictures) → IsInRange s → ArePixels pictures
     → (k : ℕ) (n : Ref) (row : ℕ) (f : Dropped) (o p : Point)
     → value_of s pictures (input_expr s k n row f o) p ≡ value_under s pictures k n row f (minus p o)
-value-input_expr s pictures range pixels k n row f o p =
-    (walk-agrees (by_points s pictures) (by_offsets s) (λ d image e. SameValue s pictures image e)
-    (λ f g. f ≡ g) IsStyle (λ q. Unit {0}) (agrees s pictures range pixels)
-    16 (whole_row (by_points s pictures) s.sheets) (whole_row (by_offsets s) s.sheets)
-    (row_walk-agrees (by_points s pictures) (by_offsets s) (λ d image e. SameValue s pictures image e)
-    (λ f g. f ≡ g) IsStyle (λ q. Unit {0}) (agrees s pictures range pixels)
-    s.sheets (meets-in_range s range) 16)
-    (sheet_at s.sheets k) (meets-in_range s range k) (depth_of (sheet_at s.sheets k)) n row f f refl).same o p
+value-input_expr s pictures range pixels k n row f =
+    (whole_input-agrees (by_points s pictures) (by_offsets s) (λ d image e. SameValue s pictures image e)
+    (λ f g. f ≡ g) IsStyle (λ q. Unit {0}) (agrees s pictures range pixels) s.sheets (meets-in_range s range) k n row f f refl).same
 
 minus-opposite : (p c : Point) → minus p (opposite c) ≡ plus p c
 minus-opposite p c = ap₂ point (omega (arith, ints)) (omega (arith, ints))
@@ -138,7 +137,4 @@ value-root_of s pictures range pixels row p =
 pub IsPixel-row_under :
     (s : SceneRecord) (pictures : Pictures) → IsInRange s → ArePixels pictures
     → (k row : ℕ) (f : Dropped) (p : Point) → IsPixel (row_under s pictures k row f p)
-IsPixel-row_under s pictures range pixels k row f p =
-    (row_walk-agrees (by_points s pictures) (by_offsets s) (λ d image e. SameValue s pictures image e)
-    (λ f g. f ≡ g) IsStyle (λ q. Unit {0}) (agrees s pictures range pixels)
-    s.sheets (meets-in_range s range) 16 k row f f refl).pixel p
+IsPixel-row_under s pictures range pixels k row f = (same-row s pictures range pixels k row f).pixel

@@ -1,6 +1,5 @@
 -- The key that sets a style at a row, and the pixel that it gives
 use Rattle.std.proofs.Common.{ℕ, zero, suc, ◌≡◌, ◌≤◌, ◌<◌, ◌&&◌, ◌||◌, ◌==◌, refl, ap, ◌∙◌, Bool, true, false, cond, eqb, leb, Option, Some, None, List, [], ◌∷◌, All, IfSome, Contains, MatchOption, filter, slice_get, get_or, length, leb-true, ⊎_elim, arith}
-use Rattle.std.specs.Option.{option_map_or}
 use Rattle.std.proofs.lemmas.Bool.{cases_lt, le-leb, and_from, eq-eqb, eqb-true}
 use Rattle.std.proofs.lemmas.Bool.Decides.{nat_tests}
 use Rattle.std.proofs.lemmas.List.Elements.{All-filter, All-weaker, All-contains_itself, filter_passes}
@@ -10,7 +9,7 @@ use Rattle.xs_palette.specs.Styles.{written}
 use Rattle.xs_scene.specs.Records.{ColoursRecord, StyleKeyRecord}
 use Rattle.xs_meaning.specs.Chosen.{IsStyleKeyInForce}
 use Rattle.xs_meaning.specs.Keys.{latest}
-use Rattle.xs_meaning.specs.Palettes.{Dropped, key_at, keyed, pixel_of, style_at, as_written}
+use Rattle.xs_meaning.specs.Palettes.{Dropped, key_at, keyed_pixel, pixel_of, style_at, as_written}
 use Rattle.xs_meaning.proofs.KeyLemmas.{latest-has, latest-greatest, latest-none, filter-All, filter-none}
 use Rattle.xs_meaning.proofs.Lists.{both_true}
 
@@ -56,40 +55,37 @@ key_at-is c row style =
         }
 
 -- the pixel of a style that is not dropped, by its key and by what is written
-abbrev by_key : Option StyleKeyRecord → Option Style → Channels
-by_key key style = option_map_or (λ s. pixel_of (keyed key s)) style clear
-
 style_at-undropped : (c : ColoursRecord) (row style : ℕ) (f : Dropped) (key : Option StyleKeyRecord) → key_at c row style ≡ key → f style ≡ false
-    → style_at c row f style ≡ cond (style == 0 || false) clear (by_key key (slice_get c.styles style))
+    → style_at c row f style ≡ cond (style == 0 || false) clear (keyed_pixel key (slice_get c.styles style))
 unfolding style_at
 style_at-undropped c row style f key is not =
-    ap (λ b. cond (style == 0 || b) clear (by_key (key_at c row style) (slice_get c.styles style))) not
-    ∙ ap (λ k. cond (style == 0 || false) clear (by_key k (slice_get c.styles style))) is
+    ap (λ b. cond (style == 0 || b) clear (keyed_pixel (key_at c row style) (slice_get c.styles style))) not
+    ∙ ap (λ k. cond (style == 0 || false) clear (keyed_pixel k (slice_get c.styles style))) is
 
-keyed_pixel : (styles : List Style) (style : ℕ) (key : StyleKeyRecord) → style < length styles → by_key (Some key) (slice_get styles style) ≡ pixel_of key.to
-keyed_pixel [] style key lt = absurd (omega arith)
-keyed_pixel (s ∷ styles) zero key lt = refl
-keyed_pixel (s ∷ styles) (suc style) key lt = keyed_pixel styles style key (omega arith)
+keyed_pixel-set : (styles : List Style) (style : ℕ) (key : StyleKeyRecord) → style < length styles → keyed_pixel (Some key) (slice_get styles style) ≡ pixel_of key.to
+keyed_pixel-set [] style key lt = absurd (omega arith)
+keyed_pixel-set (s ∷ styles) zero key lt = refl
+keyed_pixel-set (s ∷ styles) (suc style) key lt = keyed_pixel-set styles style key (omega arith)
 
-written_pixel : (styles : List Style) (style : ℕ) → by_key None (slice_get styles style) ≡ get_or (written styles) style clear
-written_pixel [] style = refl
-written_pixel (s ∷ styles) zero = refl
-written_pixel (s ∷ styles) (suc style) = written_pixel styles style
+keyed_pixel-written : (styles : List Style) (style : ℕ) → keyed_pixel None (slice_get styles style) ≡ get_or (written styles) style clear
+keyed_pixel-written [] style = refl
+keyed_pixel-written (s ∷ styles) zero = refl
+keyed_pixel-written (s ∷ styles) (suc style) = keyed_pixel-written styles style
 
 -- style 0 aside
-by_key_alone : (style : ℕ) (pixel : Channels) → cond (suc style == 0 || false) clear pixel ≡ pixel
-by_key_alone style pixel = let no : (suc style == 0 || false) ≡ false = grind (arith, nat_tests) in ap (λ b. cond b clear pixel) no
+not_zero : (style : ℕ) (pixel : Channels) → cond (suc style == 0 || false) clear pixel ≡ pixel
+not_zero style pixel = let no : (suc style == 0 || false) ≡ false = grind (arith, nat_tests) in ap (λ b. cond b clear pixel) no
 
 pub style_at-keyed : (c : ColoursRecord) (row style : ℕ) (f : Dropped) (key : StyleKeyRecord) → key_at c row style ≡ Some key → 1 ≤ style
     → style < length c.styles → f style ≡ false → style_at c row f style ≡ pixel_of key.to
 style_at-keyed c row zero f key is least lt not = absurd (omega arith)
 style_at-keyed c row (suc style) f key is least lt not =
     style_at-undropped c row (suc style) f (Some key) is not
-    ∙ (by_key_alone style (by_key (Some key) (slice_get c.styles (suc style))) ∙ keyed_pixel c.styles (suc style) key lt)
+    ∙ (not_zero style (keyed_pixel (Some key) (slice_get c.styles (suc style))) ∙ keyed_pixel-set c.styles (suc style) key lt)
 
 pub style_at-written : (c : ColoursRecord) (row style : ℕ) (f : Dropped) → key_at c row style ≡ None → f style ≡ false → style_at c row f style ≡ as_written c style
 unfolding as_written
 style_at-written c row zero f is not = style_at-undropped c row zero f None is not
 style_at-written c row (suc style) f is not =
     style_at-undropped c row (suc style) f None is not
-    ∙ (by_key_alone style (by_key None (slice_get c.styles (suc style))) ∙ written_pixel c.styles (suc style))
+    ∙ (not_zero style (keyed_pixel None (slice_get c.styles (suc style))) ∙ keyed_pixel-written c.styles (suc style))

@@ -1,16 +1,15 @@
 -- A tint gives each style the pixel of the colouring that it was made by
 use Rattle.std.proofs.Common.{ℕ, zero, suc, ◌≡◌, ◌<◌, ◌≤◌, ◌==◌, ◌||◌, refl, sym, ap, ◌∙◌, true, List, [], ◌∷◌, slice_get, get_or, length, arith, ⊎_elim}
-use Rattle.std.specs.Option.{option_map_or}
-use Rattle.std.proofs.lemmas.Bool.{cases_lt}
+use Rattle.std.proofs.lemmas.Bool.{cases_lt, cond_both}
 use Rattle.std.proofs.lemmas.List.{get_or_past, length-map}
 use Rattle.std.proofs.lemmas.List.FromFn.{length-map-range_with_len, get_or-map-range_with_len}
 use Rattle.std.proofs.lemmas.Option.{slice_get_past}
 use mathlib.Core.Path.{fun_ext, ap₂}
-use Rattle.xs_meaning.proofs.Lists.{both_true, by_test}
+use Rattle.xs_meaning.proofs.Lists.{both_true}
 use Rattle.xs_pixel.specs.Channels.{Channels, clear}
 use Rattle.xs_palette.specs.Styles.{written}
 use Rattle.xs_scene.specs.Records.{ColoursRecord}
-use Rattle.xs_meaning.specs.Palettes.{Colouring, Dropped, as_written, style_at, pixels_by, same_pixel, same_pixels, is_clear_pixel, before, without_clear_end, tint_by, tint_at, tint_style, is_as_written, keyed, key_at, pixel_of}
+use Rattle.xs_meaning.specs.Palettes.{Colouring, Dropped, as_written, style_at, pixels_by, same_pixel, same_pixels, is_clear_pixel, before, without_clear_end, tint_by, tint_at, tint_style, is_as_written, keyed_pixel, key_at, pixel_of}
 
 pub same_pixel_true : (p q : Channels) → same_pixel p q ≡ true → p ≡ q
 same_pixel_true p q same = grind arith
@@ -25,7 +24,7 @@ same_pixels_true (p ∷ ps) (q ∷ qs) same =
 
 slice_index_or-before : (p : Channels) (ps : List Channels) (i : ℕ) → get_or (before p ps) i clear ≡ get_or (p ∷ ps) i clear
 slice_index_or-before p [] i =
-    by_test (λ xs. get_or xs i clear ≡ get_or (p ∷ []) i clear) (is_clear_pixel p) [] (p ∷ [])
+    cond_both (is_clear_pixel p) [] (p ∷ []) (λ xs. get_or xs i clear ≡ get_or (p ∷ []) i clear)
     (λ passes. alone p i (same_pixel_true p clear passes)) (λ fails. refl)
   where
     alone : (p : Channels) (i : ℕ) → p ≡ clear → clear ≡ get_or (p ∷ []) i clear
@@ -77,12 +76,8 @@ pub style_at-past :
     (c : ColoursRecord) (row : ℕ) (f : Dropped) (style : ℕ) → length c.styles ≤ style → style_at c row f style ≡ clear
 unfolding style_at
 style_at-past c row f style past =
-    by_test (λ p. p ≡ clear) (style == 0 || f style) clear
-    (option_map_or (λ s. pixel_of (keyed (key_at c row style) s)) (slice_get c.styles style) clear)
-    (λ passes. refl)
-    (λ fails.
-    ap (λ o. option_map_or (λ s. pixel_of (keyed (key_at c row style) s)) o clear)
-    (slice_get_past c.styles style past))
+    cond_both (style == 0 || f style) clear (keyed_pixel (key_at c row style) (slice_get c.styles style)) (λ p. p ≡ clear)
+    (λ passes. refl) (λ fails. ap (keyed_pixel (key_at c row style)) (slice_get_past c.styles style past))
 
 style_at-zero : (c : ColoursRecord) (row : ℕ) (f : Dropped) → style_at c row f 0 ≡ clear
 unfolding style_at

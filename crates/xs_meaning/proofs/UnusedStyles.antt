@@ -1,6 +1,5 @@
 -- Filters that name no style that is used change no value
 use Rattle.std.proofs.Common.{ℕ, ◌≡◌, ◌==◌, ◌||◌, ◌&&◌, not, nat_lt, refl, sym, ap, ap₂, ◌∙◌, Bool, true, false, cond, Option, Some, None, List, [], ◌∷◌, map, slice_get, All, IfSome, option_map}
-use Rattle.std.specs.Option.{option_map_or}
 use Rattle.std.proofs.lemmas.List.Elements.{All-head, All-tail}
 use mathlib.Core.Path.{fun_ext}
 use Rattle.xs_pixel.specs.Channels.{clear}
@@ -11,12 +10,12 @@ use Rattle.xs_scene.specs.declared.node.Ref.{Ref}
 use Rattle.xs_scene.specs.Records.{SceneRecord, ColoursRecord}
 use Rattle.xs_meaning.specs.Agreement.{EachStyleUsed, AgreeOnWords, UsesNoneOf, UsesOnly}
 use Rattle.xs_meaning.specs.Drawings.{Pictures, colours_of, number_of, words_in, drawing_pixel, colouring_at}
-use Rattle.xs_meaning.specs.Palettes.{Colouring, Dropped, deleting, keeping, is_listed, style_at, pixel_of, keyed, key_at}
+use Rattle.xs_meaning.specs.Palettes.{Colouring, Dropped, deleting, keeping, is_listed, style_at, keyed_pixel, key_at}
 use Rattle.xs_meaning.specs.Points.{minus, Point}
 use Rattle.xs_meaning.specs.Rows.{by_points, blurred, row_under, value_under}
-use Rattle.xs_meaning.specs.Walk.{sheet_at, whole_row, depth_of}
-use Rattle.xs_meaning.proofs.Agree.{Agrees, row_walk-agrees, walk-agrees, meets-any}
-use Rattle.xs_meaning.proofs.Lists.{or_false, and_false}
+use Rattle.xs_meaning.specs.Walk.{sheet_at}
+use Rattle.xs_meaning.proofs.Agree.{Agrees, whole_row-agrees, whole_input-agrees, meets-any}
+use Rattle.std.proofs.Math.Bool.{or-false, and-false}
 
 -- two colourings that agree on each style that the words use give a drawing the same pixels
 
@@ -39,11 +38,7 @@ drawing_pixel-agree (Some q) g h p agree =
 pub style_at-dropped : (c : ColoursRecord) (row : ℕ) (f g : Dropped) (style : ℕ) → f style ≡ g style → style_at c row f style ≡ style_at c row g style
 unfolding style_at
 style_at-dropped c row f g style same =
-    ap
-    (λ b.
-    cond (style == 0 || b) clear
-    (option_map_or (λ s. pixel_of (keyed (key_at c row style) s)) (slice_get c.styles style) clear))
-    same
+    ap (λ b. cond (style == 0 || b) clear (keyed_pixel (key_at c row style) (slice_get c.styles style))) same
 
 -- filters that agree on the styles of a drawing's words give it the same pixels
 pub drawing_pixel-filters :
@@ -109,22 +104,18 @@ pub row_under-filters :
     → (k row : ℕ) (p : Point) → row_under s pictures k row f p ≡ row_under s pictures k row g p
 row_under-filters s pictures f g agree k row p =
     ap (λ image. image p)
-    (row_walk-agrees (by_points s pictures) (by_points s pictures) (λ d image other. image ≡ other)
+    (whole_row-agrees (by_points s pictures) (by_points s pictures) (λ d image other. image ≡ other)
     (AgreeOnWords pictures) (λ style. Unit {0}) (λ q. Unit {0}) (agrees_words s pictures) s.sheets
-    (λ j. meets-any (sheet_at s.sheets j)) 16 k row f g agree)
+    (λ j. meets-any (sheet_at s.sheets j)) k row f g agree)
 
 pub value_under-filters :
     (s : SceneRecord) (pictures : Pictures) (f g : Dropped) → AgreeOnWords pictures f g
     → (k : ℕ) (n : Ref) (row : ℕ) (p : Point) → value_under s pictures k n row f p ≡ value_under s pictures k n row g p
 value_under-filters s pictures f g agree k n row p =
     ap (λ image. image p)
-    (walk-agrees (by_points s pictures) (by_points s pictures) (λ d image other. image ≡ other)
-    (AgreeOnWords pictures) (λ style. Unit {0}) (λ q. Unit {0}) (agrees_words s pictures)
-    16 (whole_row (by_points s pictures) s.sheets) (whole_row (by_points s pictures) s.sheets)
-    (row_walk-agrees (by_points s pictures) (by_points s pictures) (λ d image other. image ≡ other)
+    (whole_input-agrees (by_points s pictures) (by_points s pictures) (λ d image other. image ≡ other)
     (AgreeOnWords pictures) (λ style. Unit {0}) (λ q. Unit {0}) (agrees_words s pictures) s.sheets
-    (λ j. meets-any (sheet_at s.sheets j)) 16)
-    (sheet_at s.sheets k) (meets-any (sheet_at s.sheets k)) (depth_of (sheet_at s.sheets k)) n row f g agree)
+    (λ j. meets-any (sheet_at s.sheets j)) k n row f g agree)
 
 EachStyleUsed-map :
     (P Q : ℕ → Type 0) → ((style : ℕ) → P style → Q style) → (pictures : Pictures)
@@ -143,7 +134,7 @@ pub AgreeOnWords-deleting :
     → AgreeOnWords pictures (deleting styles f) f
 AgreeOnWords-deleting styles pictures f none =
     EachStyleUsed-map (λ style. is_listed styles style ≡ false) (λ style. deleting styles f style ≡ f style)
-    (λ style unlisted. ap (λ b. f style || b) unlisted ∙ or_false (f style)) pictures none
+    (λ style unlisted. ap (λ b. f style || b) unlisted ∙ or-false (f style)) pictures none
 
 -- and so does keeping at least all those that words use
 pub AgreeOnWords-keeping :
@@ -153,5 +144,5 @@ AgreeOnWords-keeping styles pictures f only =
     EachStyleUsed-map (λ style. is_listed styles style ≡ true) (λ style. keeping styles f style ≡ f style)
     (λ style listed.
     ap (λ b. f style || (nat_lt style 4096 && not b)) listed
-    ∙ ap (λ b. f style || b) (and_false (nat_lt style 4096)) ∙ or_false (f style))
+    ∙ ap (λ b. f style || b) (and-false (nat_lt style 4096)) ∙ or-false (f style))
     pictures only

@@ -1,5 +1,6 @@
 -- What vanishes from an expression changes no value
 use Rattle.std.proofs.Common.{ℕ, ◌≡◌, refl, sym, ap, ap₂, ◌∙◌, Bool, true, false, Option, Some, None, option_map, add-zero, zero-add, arith}
+use Rattle.std.proofs.lemmas.Bool.{cond_both}
 use Rattle.xs_pixel.specs.Channels.{Channels, clear, IsPixel}
 use Rattle.xs_pixel.specs.Operations.{apply_of, over_of, add_of}
 use Rattle.xs_pixel.specs.declared.operation.Op.{Op}
@@ -12,7 +13,6 @@ use Rattle.xs_meaning.specs.Palettes.{Dropped, is_as_written, is_clear_pixel, as
 use Rattle.xs_meaning.specs.Points.{Point, minus}
 use Rattle.xs_meaning.specs.Rows.{blurred}
 use Rattle.xs_meaning.proofs.Blurs.{blurred-clear}
-use Rattle.xs_meaning.proofs.Lists.{by_test}
 use Rattle.xs_meaning.proofs.Tints.{same_pixel_true, as_written-is_as_written, tint_style-tint_at}
 
 -- the operation on a clear first pixel, and on a clear second one
@@ -104,7 +104,7 @@ pub value-card_of :
     → value_of s pictures (card_of pixel) p ≡ pixel
 unfolding value_of
 value-card_of s pictures pixel p =
-    by_test (λ e. value_of s pictures e p ≡ pixel) (is_clear_pixel pixel) Clear (Card pixel)
+    cond_both (is_clear_pixel pixel) Clear (Card pixel) (λ e. value_of s pictures e p ≡ pixel)
     (λ passes. sym (same_pixel_true pixel clear passes)) (λ fails. refl)
 
 pub value-leaf_by :
@@ -119,8 +119,8 @@ value-leaf_by s pictures d row f at p = by_colours (colours_of s d) refl
         ≡ drawing_pixel (pictures d) (option_map (λ c. style_at c row f) c) (minus p at)
     by_colours None is = ap (λ c. drawing_pixel (pictures d) (option_map as_written c) (minus p at)) is
     by_colours (Some c) is =
-        by_test (λ e. value_of s pictures e p ≡ drawing_pixel (pictures d) (Some (style_at c row f)) (minus p at))
-        (is_as_written c row f) (Leaf d at) (Tinted d at (tint_at c row f))
+        cond_both (is_as_written c row f)
+        (Leaf d at) (Tinted d at (tint_at c row f)) (λ e. value_of s pictures e p ≡ drawing_pixel (pictures d) (Some (style_at c row f)) (minus p at))
         (λ passes.
         ap (λ c. drawing_pixel (pictures d) (option_map as_written c) (minus p at)) is
         ∙ ap (λ g. drawing_pixel (pictures d) (Some g) (minus p at)) (as_written-is_as_written c row f passes))

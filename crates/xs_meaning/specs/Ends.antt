@@ -1,6 +1,8 @@
 use Rattle.std.specs.Prelude.{ℕ, zero, suc, ◌<◌, Option, Some, None, List, length, slice_get, All}
 use Rattle.xs_scene.specs.declared.column.Shown.{Shown}
 use Rattle.xs_scene.specs.declared.column.Shown.TheVariants.{Drawing, Sheet}
+use Rattle.xs_scene.specs.declared.seen.Seen.{Seen}
+use Rattle.xs_scene.specs.declared.seen.Seen.TheVariants.{Empty, Drawing as SeenDrawing, Row as SeenRow}
 use Rattle.xs_scene.specs.declared.node.Ref.{Ref}
 use Rattle.xs_scene.specs.declared.node.Ref.TheVariants.{Column as ToColumn, Node as ToNode}
 use Rattle.xs_scene.specs.declared.node.Node.{Node}
@@ -29,6 +31,12 @@ NodesEnd k _ (ToColumn c) = Unit {0}
 abbrev pub ShownHas : (ℕ → Type 0) → Shown → Type 0
 ShownHas P (Drawing level index) = Unit {0}
 ShownHas P (Sheet sheet start) = P sheet
+
+-- P holds of the sheet whose row is seen
+abbrev pub SeenHas : (ℕ → Type 0) → Seen → Type 0
+SeenHas P Empty = Unit {0}
+SeenHas P (SeenDrawing level index) = Unit {0}
+SeenHas P (SeenRow sheet row) = P sheet
 
 -- each way from a sheet through exposures has at most so many sheets, itself counted
 unfoldable pub SheetsEnd : List SheetRecord → ℕ → ℕ → Type 0

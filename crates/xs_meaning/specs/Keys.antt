@@ -18,3 +18,14 @@ latest row (k ∷ ks) = Some (later row k (latest row ks))
 abbrev pub earliest : {K : Type 0} → (K → ℕ) → List K → Option K
 earliest row [] = None
 earliest row (k ∷ ks) = Some (earlier row k (earliest row ks))
+
+-- of the latest of some keys and one after them, the one with the greater row; of two with the same
+-- row, the first
+abbrev pub newest : {K : Type 0} → (K → ℕ) → Option K → K → K
+newest row None k = k
+newest row (Some best) k = if nat_lt (row best) (row k) then k else best
+
+-- of the earliest of some keys and one after them, the one with the lesser row
+abbrev pub nearest : {K : Type 0} → (K → ℕ) → Option K → K → K
+nearest row None k = k
+nearest row (Some best) k = if nat_lt (row k) (row best) then k else best

@@ -1,5 +1,6 @@
 pub mod Points
 pub mod Keys
+pub mod Inputs
 pub mod Palettes
 pub mod Drawings
 pub mod Cells

@@ -37,14 +37,22 @@ pixel_of style = premultiplied style.r style.g style.b style.a
 unfoldable pub as_written : ColoursRecord → Colouring
 as_written c = style_of (written c.styles)
 
--- the palette key that sets a style at a row: of the keys of this style at or before the row, the
+-- of some keys, the one that sets a style at a row: of those of this style at or before the row, the
 -- one with the greatest row
+abbrev pub key_among : List StyleKeyRecord → ℕ → ℕ → Option StyleKeyRecord
+key_among keys row style = latest (λ k. k.row) (filter (λ k. k.style == style && nat_le k.row row) keys)
+
+-- the palette key that sets a style at a row
 abbrev pub key_at : ColoursRecord → ℕ → ℕ → Option StyleKeyRecord
-key_at c row style = latest (λ k. k.row) (filter (λ k. k.style == style && nat_le k.row row) c.keys)
+key_at c row style = key_among c.keys row style
 
 -- a written style, or what the key in force sets it to
 abbrev pub keyed : Option StyleKeyRecord → Style → Style
 keyed key style = option_map_or (λ k. k.to) key style
+
+-- the pixel that a key gives to a written style, where the palette has it
+abbrev pub keyed_pixel : Option StyleKeyRecord → Option Style → Channels
+keyed_pixel key style = option_map_or (λ s. pixel_of (keyed key s)) style clear
 
 -- the pixel of a style at a row under dropped styles: style 0, a dropped one and one that the palette
 -- lacks are clear, another is what its key sets it to, or is as written
@@ -52,7 +60,7 @@ unfoldable pub style_at : ColoursRecord → ℕ → Dropped → Colouring
 style_at c row f style =
     if style == 0 || f style
     then clear
-    else option_map_or (λ s. pixel_of (keyed (key_at c row style) s)) (slice_get c.styles style) clear
+    else keyed_pixel (key_at c row style) (slice_get c.styles style)
 
 -- the pixels of the styles of a palette, from style 0 on
 abbrev pub pixels_by : ColoursRecord → Colouring → List Channels

@@ -1,4 +1,4 @@
-use Rattle.std.specs.Prelude.{ℕ, zero, suc, ◌-◌, nat_le, nat_lt, Option, Some, None, ℤ, pos, ◌+ℤ◌, ◌-ℤ◌, ◌*ℤ◌, List, [], filter, slice_index_or, if◌then◌else◌}
+use Rattle.std.specs.Prelude.{ℕ, zero, suc, ◌-◌, nat_le, nat_lt, Option, Some, None, ℤ, pos, ◌+ℤ◌, ◌-ℤ◌, ◌*ℤ◌, ◌≤ℤ◌, ◌⊎◌, List, [], filter, slice_index_or, if◌then◌else◌}
 use Rattle.std.specs.Int.{int_div_euclid}
 use Rattle.xs_scene.specs.Records.{PegRecord, PegKeyRecord, SheetRecord}
 use Rattle.xs_meaning.specs.Keys.{latest, earliest}
@@ -16,6 +16,10 @@ key_after keys row = earliest (λ k. k.row) (filter (λ k. nat_lt row k.row) key
 -- have gone by
 unfoldable pub on_line : ℤ → ℤ → ℕ → ℕ → ℤ
 on_line from to done whole = from +ℤ int_div_euclid ((to -ℤ from) *ℤ pos done) (pos whole)
+
+-- x lies between a and b, whichever is the greater
+abbrev pub LiesBetween : ℤ → ℤ → ℤ → Type 0
+LiesBetween a b x = ((a ≤ℤ x) × (x ≤ℤ b)) ⊎ ((b ≤ℤ x) × (x ≤ℤ a))
 
 -- the offset that a key gives at a row, with the key after the row: a key holds, and a line key moves
 -- in a straight line to the next one, if there is one

@@ -1,19 +1,19 @@
 //! Laws of palettes, palette keys and palette filters.
 
-ghost use Rattle.std.specs.Prelude.{◌≡◌, ◌≤◌, ◌<◌, ℕ, true, false, Some, None, List, All, MatchOption, length};
-ghost use Rattle.xs_pixel.specs.Channels.{clear};
+ghost use Rattle.std.specs.Prelude.{◌≡◌, ◌≤◌, ◌<◌, ℕ, true, false, Some, None, List, All, MatchOption, length, slice_index_or};
+ghost use Rattle.xs_pixel.specs.Channels.{Channels, clear};
 ghost use Rattle.xs_meaning.specs.Agreement.{AgreeOnWords, UsesNoneOf, UsesOnly, DropsAlike, PalettesAlike};
 ghost use Rattle.xs_meaning.specs.Chosen.{IsStyleKeyInForce};
 ghost use Rattle.xs_meaning.specs.Drawings.{Pictures};
 ghost use Rattle.xs_meaning.specs.Expressions.{row_expr, input_expr};
-ghost use Rattle.xs_meaning.specs.Palettes.{Dropped, deleting, keeping, is_listed, pixel_of, as_written, key_at, style_at, tint_at, tint_style};
+ghost use Rattle.xs_meaning.specs.Palettes.{Dropped, deleting, keeping, is_listed, pixel_of, as_written, key_at, style_at, tint_at, tint_style, without_clear_end};
 ghost use Rattle.xs_meaning.specs.Points.{Point};
 ghost use Rattle.xs_meaning.specs.Rows.{row_under, value_under};
 ghost use Rattle.xs_scene.specs.Records.{SceneRecord, ColoursRecord, StyleKeyRecord};
 ghost use Rattle.xs_scene.specs.declared.node.Ref.{Ref};
 
 /// A style has at a row the colour of the last of its keys at or before the row. Without such a key all its
-/// keys come later, and it is as written.
+/// keys come later, and it is as written. A style that the palette lacks is clear.
 pub fn palette_keys_are_chosen_by_row()
     ensures in_force { (c : ColoursRecord) (row style : ℕ)
         → MatchOption (key_at c row style) (All (λ k. k.style ≡ style → row < k.row) c.keys)
@@ -23,6 +23,8 @@ pub fn palette_keys_are_chosen_by_row()
         → style_at c row f style ≡ pixel_of key.to }
     ensures without_key { (c : ColoursRecord) (row style : ℕ) (f : Dropped) → key_at c row style ≡ None
         → f style ≡ false → style_at c row f style ≡ as_written c style }
+    ensures lacking { (c : ColoursRecord) (row style : ℕ) (f : Dropped) → length c.styles ≤ style
+        → style_at c row f style ≡ clear }
 {}
 
 /// Delete makes the listed styles clear and leaves every other as it was. Keep leaves the listed styles as
@@ -45,6 +47,21 @@ pub fn tint_is_canonical()
     ensures one { (c other : ColoursRecord) (row more : ℕ) (f g : Dropped)
         → ((style : ℕ) → style_at c row f style ≡ style_at other more g style)
         → tint_at c row f ≡ tint_at other more g }
+
+    // whatever list has the pixel of each style
+    ensures any_list { (c : ColoursRecord) (row : ℕ) (f : Dropped) (pixels : List Channels)
+        → ((style : ℕ) → slice_index_or pixels style clear ≡ style_at c row f style)
+        → without_clear_end pixels ≡ tint_at c row f }
+{}
+
+/// Clear pixels at the end of a list tell nothing: without them it has the same pixels at each number,
+/// and all lists that have the same are one.
+pub fn clear_pixels_at_the_end_tell_nothing()
+    ensures pixels { (pixels : List Channels) (i : ℕ)
+        → slice_index_or (without_clear_end pixels) i clear ≡ slice_index_or pixels i clear }
+    ensures one { (pixels others : List Channels)
+        → ((i : ℕ) → slice_index_or pixels i clear ≡ slice_index_or others i clear)
+        → without_clear_end pixels ≡ without_clear_end others }
 {}
 
 /// Filters and palette keys that leave every style its pixel change no expression.

@@ -1,19 +1,19 @@
 //! Laws of values, rows and places: the rules as they are told, without a bound of depth.
 
-ghost use Rattle.std.specs.Prelude.{◌≡◌, ℕ, false, ◌+◌, ◌-◌, ◌*◌, ◌<◌, ◌≤◌, pos, Option, Some, List, length, slice_index_or, All, MatchOption};
+ghost use Rattle.std.specs.Prelude.{◌≡◌, ℕ, false, ◌+◌, ◌-◌, ◌*◌, ◌<◌, ◌≤◌, ℤ, pos, Option, Some, List, length, slice_index_or, All, MatchOption, Contains, find};
 ghost use Rattle.xs_pixel.specs.Channels.{Channels};
 ghost use Rattle.xs_meaning.specs.Cells.{cell_at, covers, shown_after};
 ghost use Rattle.xs_meaning.specs.Chosen.{IsOnlyAt, IsKeyInForce, IsKeyAfter, HasDistinctRows};
 ghost use Rattle.xs_meaning.specs.Drawings.{Pictures};
-ghost use Rattle.xs_meaning.specs.Ends.{AllEnd};
+ghost use Rattle.xs_meaning.specs.Ends.{AllEnd, SeenHas, SheetsEnd};
 ghost use Rattle.xs_meaning.specs.Expressions.{by_offsets, row_expr, root_of};
 ghost use Rattle.xs_meaning.specs.Palettes.{Dropped};
-ghost use Rattle.xs_meaning.specs.Places.{own_offset, peg_at, place_of, key_in_force, key_after};
+ghost use Rattle.xs_meaning.specs.Places.{own_offset, on_line, LiesBetween, peg_at, place_of, key_in_force, key_after};
 ghost use Rattle.xs_meaning.specs.Points.{Point, point, plus};
 ghost use Rattle.xs_meaning.specs.Rows.{by_points, row_of, row_under, value_under, camera_at, frame_of, frame_pixel};
 ghost use Rattle.xs_meaning.specs.Tables.{ColumnsFollow, NodesFollow, RowsFollow};
-ghost use Rattle.xs_meaning.specs.Walk.{sheet_at, whole_row, row_walk, walk, depth_of};
-ghost use Rattle.xs_scene.specs.Records.{SceneRecord, PegKeyRecord, ColumnRecord, ExposureRecord};
+ghost use Rattle.xs_meaning.specs.Walk.{sheet_at, column_at, whole_row, row_walk, walk, depth_of};
+ghost use Rattle.xs_scene.specs.Records.{SceneRecord, SheetRecord, PegKeyRecord, ColumnRecord, ExposureRecord};
 ghost use Rattle.xs_scene.specs.declared.seen.Seen.TheVariants as Seen;
 ghost use Rattle.xs_scene.specs.declared.node.Ref.{Ref};
 
@@ -25,9 +25,12 @@ pub fn values_follow_the_tables()
     ensures rows { (s : SceneRecord) (pictures : Pictures) → AllEnd s.sheets → RowsFollow s pictures }
 {}
 
-/// A column shows at a row the exposure whose rows contain it, where there is only one; in a gap it shows
-/// nothing.
+/// A column shows at a row what one of its exposures shows there, or nothing: the exposure whose rows
+/// contain the row, where there is only one, and nothing in a gap.
 pub fn cells_are_chosen_by_row()
+    ensures own { (column : ColumnRecord) (row : ℕ)
+        → MatchOption (find (covers row) column.cells) (cell_at column row ≡ Seen.Empty)
+        (λ e. Contains column.cells e × (cell_at column row ≡ shown_after (row - e.from) e.shown)) }
     ensures shown { (column : ColumnRecord) (row : ℕ) (e : ExposureRecord) → IsOnlyAt column row e
         → cell_at column row ≡ shown_after (row - e.from) e.shown }
     ensures gap { (column : ColumnRecord) (row : ℕ) → All (λ e. covers row e ≡ false) column.cells
@@ -49,6 +52,11 @@ pub fn keys_are_chosen_by_row()
         → IsKeyAfter keys row b → key_after keys row ≡ Some b }
 {}
 
+/// On the straight line from one key to the next a coordinate lies between those of the two keys.
+pub fn lines_stay_between_their_keys()
+    ensures { (from to : ℤ) (done whole : ℕ) → done ≤ whole → 0 < whole → LiesBetween from to (on_line from to done whole) }
+{}
+
 /// The place of a peg is its own offset plus the place of its parent.
 pub fn place_adds_the_parents_place()
     ensures { (s : SceneRecord) → AllEnd s.sheets → (k i row : ℕ) → i < length (sheet_at s.sheets k).pegs
@@ -65,6 +73,13 @@ pub fn frames_go_row_by_row()
         → x < s.camera.w → y < s.camera.h
         → slice_index_or (frame_of s pictures row) (y * s.camera.w + x) outside
         ≡ frame_pixel s pictures row (point (pos x) (pos y)) }
+{}
+
+/// Where each way from a sheet through exposures has at most so many sheets, each from a sheet that one of
+/// its columns sees has one fewer.
+pub fn seen_sheets_end_sooner()
+    ensures { (sheets : List SheetRecord) (d k c row : ℕ) → SheetsEnd sheets (d + 1) k
+        → SeenHas (SheetsEnd sheets d) (cell_at (column_at (sheet_at sheets k) c) row) }
 {}
 
 /// To follow nested sheets or nodes further than the bounds of the definitions changes nothing.

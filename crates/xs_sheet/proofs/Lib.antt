@@ -1,3 +1,4 @@
-pub mod Chosen
-pub mod Lines
-pub mod Sums
+mod BestKeys
+mod Lines
+mod Offsets
+mod ShownCells

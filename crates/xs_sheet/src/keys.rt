@@ -1,10 +1,11 @@
 ghost use Rattle.std.specs.Prelude.{◌≡◌, ◌≤◌, ◌<◌, IfSome};
 ghost use Rattle.xs_scene.specs.Ranges.{IsOffset, IsPegKey};
+ghost use Rattle.xs_meaning.specs.Keys.{newest, nearest};
 ghost use Rattle.xs_meaning.specs.Places.{key_in_force, key_after, offset_from, on_line};
 ghost use Rattle.xs_meaning.specs.Places.{own_offset as offset_at};
 ghost use Rattle.xs_meaning.specs.Points.{point};
-ghost use Rattle.xs_sheet.specs.Taken.{newest, nearest};
 
+use xs_meaning::rules::lines_stay_between_their_keys;
 use xs_scene::{Peg, PegKey};
 
 /// A peg's own offset at a row: that of its key with the greatest row at or before it, on the straight
@@ -100,6 +101,7 @@ fn coordinate(from: i32, to: i32, done: u32, whole: u32) -> i32
     ensures value { result ≡ on_line from to done whole }
     ensures within { IsOffset result }
 {
+    lines_stay_between_their_keys();
     let by = (to - from) * done as i32;
     from + by.div_euclid(whole as i32)
 }

@@ -1,8 +1,8 @@
-ghost use Rattle.std.specs.Prelude.{◌≡◌, ◌+◌, ℕ, Some};
-ghost use Rattle.xs_scene.specs.Ranges.{IsOffset};
+ghost use Rattle.std.specs.Prelude.{◌≡◌, ◌≤◌, ◌*◌};
 ghost use Rattle.xs_meaning.specs.Bounds.{IsWithin};
-ghost use Rattle.xs_meaning.specs.Places.{place_of, place_up};
-ghost use Rattle.xs_meaning.specs.Points.{point, plus};
+ghost use Rattle.xs_meaning.specs.Places.{place_of};
+ghost use Rattle.xs_meaning.specs.Places.{place_up as place_as_far};
+ghost use Rattle.xs_meaning.specs.Points.{point};
 
 use crate::keys::own_offset;
 use xs_scene::Sheet;
@@ -16,50 +16,25 @@ pub fn place(s: &Sheet, peg: Option<u32>, row: u32) -> (i32, i32)
     ensures value { point result.0 result.1 ≡ place_of s.now peg row }
     ensures near { IsWithin 4194304 (point result.0 result.1) }
 {
-    let mut next = peg;
-    let mut x = 0;
-    let mut y = 0;
-    for _taken in 0..LONGEST_CHAIN {
-        let Some(number) = next else {
-            return (x, y);
-        };
-        let link = link_at(s, number, row);
-        x += link.x;
-        y += link.y;
-        next = link.parent;
-    }
-    (x, y)
+    place_up(s, peg, row, LONGEST_CHAIN)
 }
 
-/// What one peg of a chain adds, and the next one.
-#[derive(Clone, Copy)]
-struct Link {
-    x: i32,
-    y: i32,
-    parent: Option<u32>,
-}
-
-impl Link {
-    const END: Link = Link {
-        x: 0,
-        y: 0,
-        parent: None,
-    };
-}
-
-/// The link of a peg by its number. A peg that the sheet lacks adds nothing and has no parent.
-fn link_at(s: &Sheet, number: u32, row: u32) -> Link
-    ensures link { (n : ℕ) → place_up (n + 1) s.now (Some number) row ≡ plus (point result.x result.y) (place_up n s.now result.parent row) }
-    ensures across { IsOffset result.x }
-    ensures up { IsOffset result.y }
+/// The place of a peg, as far as so many pegs up. A peg that the sheet lacks ends the chain.
+fn place_up(s: &Sheet, peg: Option<u32>, row: u32, most: u32) -> (i32, i32)
+    requires { most ≤ 64 }
+    ensures value { point result.0 result.1 ≡ place_as_far most s.now peg row }
+    ensures near { IsWithin (65536 * most) (point result.0 result.1) }
 {
-    let Some(peg) = s.pegs.items().get(number as usize) else {
-        return Link::END;
+    let Some(number) = peg else {
+        return (0, 0);
     };
-    let (x, y) = own_offset(peg, row);
-    Link {
-        x,
-        y,
-        parent: peg.parent,
+    let Some(peg) = s.pegs.items().get(number as usize) else {
+        return (0, 0);
+    };
+    if most == 0 {
+        return (0, 0);
     }
+    let (x, y) = own_offset(peg, row);
+    let (across, up) = place_up(s, peg.parent, row, most - 1);
+    (x + across, y + up)
 }

@@ -1,43 +1,21 @@
 -- The key in force among keys that are taken one by one
-use Rattle.std.proofs.Common.{◌≡◌, ℕ, ◌+◌, ◌<◌, ◌≤◌, Bool, true, false, ◌&&◌, cond, eqb, ltb, leb, length, take, get_or, set, List, [], ◌∷◌, ◌++◌, Option, Some, None, filter, append-nil, get_or-set_same, get_or-set_other, length-set, inl, inr, ◌⊎◌, refl, sym, ap, ◌∙◌, ⊎_elim, subst, arith, rules}
-use Rattle.std.proofs.lemmas.Bool.Decides.{nat_tests}
+use Rattle.std.proofs.Common.{◌≡◌, ℕ, ◌+◌, ◌<◌, ◌≤◌, Bool, true, false, ◌&&◌, cond, eqb, ltb, leb, length, take, get_or, set, List, Option, Some, None, get_or-set_same, get_or-set_other, length-set, inl, inr, ◌⊎◌, refl, sym, ap, ◌∙◌, subst, arith}
 use Rattle.std.proofs.lemmas.Bool.{cases_eq, cases_Bool, lt-ltb, eq-eqb, ne_eqb, and_from, and_left, and_right}
-use Rattle.std.proofs.lemmas.List.Elements.{filter_more}
 use Rattle.std.specs.Option.{option_map_or}
 use Rattle.xs_pixel.specs.declared.style.Style.{Style}
-use Rattle.xs_meaning.specs.Palettes.{keyed}
+use Rattle.xs_meaning.specs.Palettes.{key_among, keyed}
 use Rattle.xs_scene.specs.Records.{StyleKeyRecord}
-use Rattle.xs_meaning.specs.Keys.{latest, later}
-use Rattle.xs_tint.specs.KeysTaken.{key_among, AreTaken, sets}
-
--- the key in force where one more is taken
-abbrev pub newest : {K : Type 0} → (K → ℕ) → Option K → K → K
-newest row None k = k
-newest row (Some best) k = cond (ltb (row best) (row k)) k best
-
-latest_pair : {K : Type 0} (row : K → ℕ) (x k : K) (o : Option K) → later row x (Some (newest row o k)) ≡ newest row (Some (later row x o)) k
-latest_pair row x k None = refl
-latest_pair row x k (Some b) = grind (arith, nat_tests)
-
-pub latest-push : {K : Type 0} (row : K → ℕ) (xs : List K) (k : K) → latest row (xs ++ k ∷ []) ≡ Some (newest row (latest row xs) k)
-latest-push row [] k = refl
-latest-push row (x ∷ xs) k = ap (λ o. Some (later row x o)) (latest-push row xs k) ∙ ap Some (latest_pair row x k (latest row xs))
+use Rattle.xs_meaning.specs.Keys.{latest, newest}
+use Rattle.xs_meaning.proofs.KeyLemmas.{latest-push, choice-more}
+use Rattle.xs_tint.specs.KeysTaken.{AreTaken, sets}
 
 -- where one more key is taken, it may become the one in force
-pub key_among_more :
+key_among_more :
     (keys : List StyleKeyRecord) (i row style : ℕ) (key : StyleKeyRecord) → i < length keys → key ≡ get_or keys i key
     → key_among (take (i + 1) keys) row style
     ≡ cond (eqb key.style style && leb key.row row) (Some (newest (λ k. k.row) (key_among (take i keys) row style) key)) (key_among (take i keys) row style)
 key_among_more keys i row style key within is =
-    ap (latest (λ k. k.row)) (filter_more test keys i key within ∙ ap (λ k. filter test (take i keys) ++ cond (test k) (k ∷ []) []) (sym is))
-    ∙ grown (test key)
-  where
-    test : StyleKeyRecord → Bool
-    test k = eqb k.style style && leb k.row row
-
-    grown : (b : Bool) → latest (λ k. k.row) (filter (λ k. eqb k.style style && leb k.row row) (take i keys) ++ cond b (key ∷ []) []) ≡ cond b (Some (newest (λ k. k.row) (key_among (take i keys) row style) key)) (key_among (take i keys) row style)
-    grown true = latest-push (λ k. k.row) (filter (λ k. eqb k.style style && leb k.row row) (take i keys)) key
-    grown false = ap (latest (λ k. k.row)) (append-nil (filter (λ k. eqb k.style style && leb k.row row) (take i keys)))
+    choice-more (latest (λ k. k.row)) (newest (λ k. k.row)) (latest-push (λ k. k.row)) (λ k. eqb k.style style && leb k.row row) keys i key within is
 
 -- the pixel and the row of the style of the key that is taken
 set_to : (o : Option StyleKeyRecord) (key : StyleKeyRecord) (written : Style) (r : ℕ) (s : Style) → 1 ≤ key.row

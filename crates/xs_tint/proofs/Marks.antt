@@ -1,12 +1,11 @@
 -- Flags of the styles that a filter lists
-use Rattle.std.proofs.Common.{◌≡◌, ℕ, zero, suc, replicate, ◌+◌, ◌<◌, ◌≤◌, Bool, true, false, ◌||◌, ◌&&◌, cond, not, eqb, ltb, length, take, get_or, set, List, refl, sym, ap, ◌∙◌, ⊎_elim, subst, arith, get_or-set_same, get_or-set_other, All}
+use Rattle.std.proofs.Common.{◌≡◌, ℕ, zero, suc, replicate, ◌+◌, ◌<◌, ◌≤◌, Bool, true, false, ◌||◌, ◌&&◌, not, eqb, ltb, length, take, get_or, set, List, refl, sym, ap, ◌∙◌, ⊎_elim, subst, arith, get_or-set_same, get_or-set_other, All}
 use Rattle.std.proofs.Math.Path.{fun_ext}
-use Rattle.std.proofs.lemmas.Bool.{cases_eq, cases_lt, eq-eqb, ne_eqb, or_right, or_from, lt-ltb, le-ltb, cases_Bool}
-use Rattle.std.proofs.lemmas.List.{get_or_past, get_or_default}
+use Rattle.std.proofs.lemmas.Bool.{cases_eq, cases_lt, eq-eqb, ne_eqb, or_right, lt-ltb, le-ltb}
+use Rattle.std.proofs.lemmas.List.{get_or_past}
 use Rattle.std.proofs.lemmas.List.Folds.{list_any_more, list_any_none}
-use Rattle.std.specs.List.{list_any}
 use Rattle.xs_scene.specs.Ranges.{IsFiltered}
-use Rattle.xs_meaning.specs.Palettes.{Dropped, none_dropped, is_listed, deleting, keeping}
+use Rattle.xs_meaning.specs.Palettes.{none_dropped, is_listed}
 use Rattle.xs_tint.specs.Filters.{dropped_by, drops, filtering}
 
 keeps : (a b : Bool) → b ≡ false → a ≡ (a || b)

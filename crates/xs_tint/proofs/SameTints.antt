@@ -1,5 +1,6 @@
 -- Palettes that give every style the same pixel have one tint, and the other way round
-use Rattle.std.proofs.Common.{◌≡◌, ◌≢◌, ℕ, ◌+◌, ◌<◌, ◌≤◌, true, ◌&&◌, eqb, Some, List, [], ◌∷◌, ◌++◌, AllPairs, Contains, slice_get, subst, map, length, get_or, refl, sym, ap, ◌∙◌, ⊎_elim, arith}
+use Rattle.std.proofs.Common.{◌≡◌, ◌≢◌, ℕ, ◌<◌, ◌≤◌, true, ◌&&◌, eqb, Some, List, [], ◌∷◌, ◌++◌, AllPairs, Contains, slice_get, subst, map, length, get_or, refl, sym, ap, ◌∙◌, ⊎_elim, arith}
+use Rattle.std.proofs.Math.ListN.{get_or-map}
 use Rattle.std.specs.List.{range_with_len}
 use Rattle.std.proofs.lemmas.Bool.{cases_lt, eq-eqb, and_from}
 use Rattle.std.specs.Option.{option_map}
@@ -8,27 +9,26 @@ use Rattle.std.proofs.lemmas.List.{get_or_default, map-append, length-map}
 use Rattle.std.proofs.lemmas.List.Quantifiers.{all_pairs_push}
 use Rattle.xs_pixel.specs.Channels.{Channels, clear}
 use Rattle.xs_palette.specs.Styles.{style_of}
-use Rattle.xs_meaning.specs.Palettes.{without_clear_end}
-use Rattle.xs_meaning.proofs.Lists.{slice_index_or-map}
-use Rattle.xs_meaning.proofs.Tints.{slice_index_or-without_clear_end}
-use Rattle.xs_meaning.proofs.Canonical.{without_clear_end-same}
 use Rattle.xs_tint.proofs.ShownStyles.{get_or-styles, style_of-past}
+use Rattle.xs_meaning.specs.Palettes.{without_clear_end}
 use Rattle.xs_tint.specs.Tints.{tint_of}
 
-pub get_or-tint_of : (palette : List Channels) (id : ℕ) → get_or (tint_of palette) id clear ≡ style_of palette id
-get_or-tint_of palette id =
-    slice_index_or-without_clear_end (map (style_of palette) (range_with_len 0 (length palette))) id ∙ get_or-styles palette id
+-- clear pixels at the end of a list tell nothing
+module _ (same_pixels : (xs : List Channels) (i : ℕ) → get_or (without_clear_end xs) i clear ≡ get_or xs i clear)
+    (one_list : (xs ys : List Channels) → ((i : ℕ) → get_or xs i clear ≡ get_or ys i clear) → without_clear_end xs ≡ without_clear_end ys)
+    (a b : List Channels) where
+  get_or-tint_of : (palette : List Channels) (id : ℕ) → get_or (tint_of palette) id clear ≡ style_of palette id
+  get_or-tint_of palette id = same_pixels (map (style_of palette) (range_with_len 0 (length palette))) id ∙ get_or-styles palette id
 
-pub styles-from_tint : (a b : List Channels) → tint_of a ≡ tint_of b → (id : ℕ) → style_of a id ≡ style_of b id
-styles-from_tint a b same id = sym (get_or-tint_of a id) ∙ ap (λ t. get_or t id clear) same ∙ get_or-tint_of b id
+  pub styles-from_tint : tint_of a ≡ tint_of b → (id : ℕ) → style_of a id ≡ style_of b id
+  styles-from_tint same id = sym (get_or-tint_of a id) ∙ ap (λ t. get_or t id clear) same ∙ get_or-tint_of b id
 
--- as many styles as the longer palette has decide
-pub tint-from_styles :
-    (a b : List Channels) (count : ℕ) → length a ≤ count → length b ≤ count
-    → ((id : ℕ) → id < count → style_of a id ≡ style_of b id) → tint_of a ≡ tint_of b
-tint-from_styles a b count of_a of_b same =
-    without_clear_end-same (map (style_of a) (range_with_len 0 (length a))) (map (style_of b) (range_with_len 0 (length b)))
-    (λ id. get_or-styles a id ∙ ⊎_elim (same id) (λ past. style_of-past a id (omega arith) ∙ sym (style_of-past b id (omega arith))) (cases_lt id count) ∙ sym (get_or-styles b id))
+  -- as many styles as the longer palette has decide
+  pub tint-from_styles :
+      (count : ℕ) → length a ≤ count → length b ≤ count → ((id : ℕ) → id < count → style_of a id ≡ style_of b id) → tint_of a ≡ tint_of b
+  tint-from_styles count of_a of_b same =
+      one_list (map (style_of a) (range_with_len 0 (length a))) (map (style_of b) (range_with_len 0 (length b)))
+      (λ id. get_or-styles a id ∙ ⊎_elim (same id) (λ past. style_of-past a id (omega arith) ∙ sym (style_of-past b id (omega arith))) (cases_lt id count) ∙ sym (get_or-styles b id))
 
 pub same_test : (p q : Channels) → p ≡ q → (eqb p.r q.r && (eqb p.g q.g && (eqb p.b q.b && eqb p.m q.m))) ≡ true
 same_test p q same =
@@ -56,7 +56,7 @@ pub tint-not_among :
     → ((k : ℕ) (d : List Channels) → k < n → tint_of (get_or palettes k d) ≢ tint_of p)
     → Contains (map tint_of palettes) (tint_of p) → ⊥
 tint-not_among palettes p n all differ at =
-    differ at.0 p (omega (arith, at.1, length-map palettes tint_of)) (sym (slice_index_or-map tint_of palettes at.0 p) ∙ at.2)
+    differ at.0 p (omega (arith, at.1, length-map palettes tint_of)) (sym (get_or-map tint_of palettes at.0 p) ∙ at.2)
 
 pub tint-last :
     (palettes new : List (List Channels)) (p : List Channels) (n : ℕ) → new ≡ palettes ++ p ∷ [] → n ≡ length palettes

@@ -1,8 +1,8 @@
 -- The palette made of styles as keys set them and filters drop them
-use Rattle.std.proofs.Common.{◌≡◌, ℕ, zero, suc, ◌+◌, ◌<◌, ◌≤◌, Bool, true, false, ◌||◌, cond, length, get_or, List, map, Some, slice_get, refl, sym, ap, ◌∙◌, ⊎_elim, subst, arith}
+use Rattle.std.proofs.Common.{◌≡◌, ℕ, zero, suc, ◌<◌, ◌≤◌, Bool, true, false, ◌||◌, cond, length, get_or, List, map, slice_get, refl, sym, ap, ◌∙◌, ⊎_elim, arith}
 use Rattle.std.proofs.Math.Path.{fun_ext}
+use Rattle.std.proofs.Math.ListN.{get_or-map}
 use Rattle.std.specs.List.{range_with_len}
-use Rattle.std.specs.Option.{option_map_or}
 use Rattle.std.proofs.lemmas.Bool.{cases_lt, ne_eqb}
 use Rattle.std.proofs.lemmas.List.{get_or_past, length-map}
 use Rattle.std.proofs.lemmas.List.FromFn.{get_or-map-range_with_len, length-map-range_with_len}
@@ -12,12 +12,8 @@ use Rattle.xs_pixel.specs.Operations.{product}
 use Rattle.xs_pixel.specs.declared.style.Style.{Style}
 use Rattle.xs_palette.specs.Styles.{written, style_of}
 use Rattle.xs_scene.specs.Records.{ColoursRecord}
-use Rattle.xs_meaning.specs.Palettes.{Dropped, Colouring, style_at, tint_at, pixels_by, key_at, keyed, pixel_of, without_clear_end}
-use Rattle.xs_meaning.proofs.Lists.{slice_index_or-map}
-use Rattle.xs_meaning.proofs.Tints.{style_at-past, get_or-tint_at, slice_index_or-without_clear_end}
-use Rattle.xs_meaning.proofs.Canonical.{without_clear_end-same}
+use Rattle.xs_meaning.specs.Palettes.{Dropped, style_at, key_at, keyed, keyed_pixel, pixel_of}
 use Rattle.xs_tint.specs.declared.shown.TheConstants.{NO_COLOUR}
-use Rattle.xs_tint.specs.Tints.{tint_of}
 
 no_colour-clear : pixel_of NO_COLOUR ≡ clear
 unfolding product
@@ -30,27 +26,28 @@ shown_pixel false s = refl
 
 -- styles as the keys in force set them, and without colour where they are dropped
 pub style_of-shown :
-    (c : ColoursRecord) (row : ℕ) (f : Dropped) (styles : List Style) → length styles ≡ length c.styles
+    (c : ColoursRecord) (row : ℕ) (f : Dropped) (styles : List Style)
+    → ((style : ℕ) → length c.styles ≤ style → style_at c row f style ≡ clear) → length styles ≡ length c.styles
     → ((k : ℕ) (d : Style) → k < length c.styles → get_or styles k d ≡ cond (f k) NO_COLOUR (keyed (key_at c row k) (get_or c.styles k d)))
     → style_of (written styles) ≡ style_at c row f
 unfolding style_at
-style_of-shown c row f styles long shown = fun_ext at
+style_of-shown c row f styles lacking long shown = fun_ext at
   where
     here : (id : ℕ) → suc id < length c.styles → get_or (written styles) (suc id) clear ≡ style_at c row f (suc id)
     here id inside =
         let d = NO_COLOUR in
         ap (get_or (written styles) (suc id)) (sym no_colour-clear)
-        ∙ slice_index_or-map pixel_of styles (suc id) d
+        ∙ get_or-map pixel_of styles (suc id) d
         ∙ ap pixel_of (shown (suc id) d inside)
         ∙ shown_pixel (f (suc id)) (keyed (key_at c row (suc id)) (get_or c.styles (suc id) d))
-        ∙ ap (λ o. cond (f (suc id)) clear (option_map_or (λ s. pixel_of (keyed (key_at c row (suc id)) s)) o clear)) (sym (slice_get-get_or c.styles (suc id) d inside))
-        ∙ ap (λ b. cond (b || f (suc id)) clear (option_map_or (λ s. pixel_of (keyed (key_at c row (suc id)) s)) (slice_get c.styles (suc id)) clear)) (sym (ne_eqb (suc id) 0 (omega arith)))
+        ∙ ap (λ o. cond (f (suc id)) clear (keyed_pixel (key_at c row (suc id)) o)) (sym (slice_get-get_or c.styles (suc id) d inside))
+        ∙ ap (λ b. cond (b || f (suc id)) clear (keyed_pixel (key_at c row (suc id)) (slice_get c.styles (suc id)))) (sym (ne_eqb (suc id) 0 (omega arith)))
 
     at : (id : ℕ) → style_of (written styles) id ≡ style_at c row f id
     at zero = refl
     at (suc id) =
         ⊎_elim (here id)
-        (λ past. get_or_past (written styles) (suc id) clear (omega (arith, length-map styles pixel_of, long)) ∙ sym (style_at-past c row f (suc id) past))
+        (λ past. get_or_past (written styles) (suc id) clear (omega (arith, length-map styles pixel_of, long)) ∙ sym (lacking (suc id) past))
         (cases_lt (suc id) (length c.styles))
 
 pub style_of-past : (palette : List Channels) (id : ℕ) → length palette ≤ id → style_of palette id ≡ clear
@@ -64,11 +61,3 @@ get_or-styles palette id =
     (λ inside. get_or-map-range_with_len (style_of palette) 0 (length palette) id id clear inside (omega arith))
     (λ past. get_or_past (map (style_of palette) (range_with_len 0 (length palette))) id clear (omega (arith, length-map-range_with_len (style_of palette) 0 (length palette))) ∙ sym (style_of-past palette id past))
     (cases_lt id (length palette))
-
--- a palette that gives every style its pixel at a row has the tint of that row
-pub tint_of-shown :
-    (c : ColoursRecord) (row : ℕ) (f : Dropped) (palette : List Channels) → style_of palette ≡ style_at c row f
-    → tint_of palette ≡ tint_at c row f
-tint_of-shown c row f palette same =
-    without_clear_end-same (map (style_of palette) (range_with_len 0 (length palette))) (pixels_by c (style_at c row f))
-    (λ i. get_or-styles palette i ∙ ap (λ g. g i) same ∙ sym (get_or-tint_at c row f i) ∙ slice_index_or-without_clear_end (pixels_by c (style_at c row f)) i)

@@ -1,13 +1,8 @@
-use Rattle.std.specs.Prelude.{◌≡◌, ℕ, ◌<◌, nat_le, nat_lt, ◌==◌, ◌&&◌, Bool, List, Option, length, filter, slice_index_or, slice_index}
+use Rattle.std.specs.Prelude.{◌≡◌, ℕ, ◌<◌, nat_le, nat_lt, ◌&&◌, Bool, List, length, slice_index_or, slice_index}
 use Rattle.std.specs.Option.{option_map_or}
 use Rattle.xs_pixel.specs.declared.style.Style.{Style}
 use Rattle.xs_scene.specs.Records.{StyleKeyRecord}
-use Rattle.xs_meaning.specs.Keys.{latest}
-use Rattle.xs_meaning.specs.Palettes.{keyed}
-
--- of some keys, the one that sets a style at a row
-abbrev pub key_among : List StyleKeyRecord → ℕ → ℕ → Option StyleKeyRecord
-key_among keys row style = latest (λ k. k.row) (filter (λ k. k.style == style && nat_le k.row row) keys)
+use Rattle.xs_meaning.specs.Palettes.{key_among, keyed}
 
 -- some keys of a palette have been taken: each style is as these set it, beside the row of the key
 -- that did, or 0

@@ -1,4 +1,4 @@
-use Rattle.std.specs.Prelude.{ℕ, List, map, length}
+use Rattle.std.specs.Prelude.{List, map, length}
 use Rattle.std.specs.List.{range_with_len}
 use Rattle.xs_pixel.specs.Channels.{Channels}
 use Rattle.xs_palette.specs.Styles.{style_of}

@@ -8,7 +8,7 @@ use std::marker::Model;
 use xs_pixel::{List, Memory};
 
 /// How many styles a filter can name: those whose number is less.
-pub const NAMEABLE: usize = 4096;
+const NAMEABLE: usize = 4096;
 
 /// The styles that filters on the way to a drawing have dropped: these are clear there. Contracts see
 /// it as one flag for each style from 0 on, in which `dropped_by` looks one up.
@@ -19,12 +19,13 @@ pub struct Dropped {
 
 impl Model for Dropped {
     ghost use Rattle.std.specs.Prelude.{◌≡◌, List, Bool, length};
+    ghost use Rattle.xs_tint.specs.declared.dropped.TheConstants.{NAMEABLE};
 
     ghost Value = { List Bool };
 
     ghost view = { λ d. d.flags.items };
 
-    ghost invariant = { λ d. length d.flags.items ≡ 4096 };
+    ghost invariant = { λ d. length d.flags.items ≡ NAMEABLE };
 }
 
 impl Dropped {
@@ -63,8 +64,8 @@ impl Dropped {
 /// A flag for each style that a filter can name: whether it is one of these.
 fn marks(alloc: Global, styles: &[u32]) -> Result<Vec<bool>, Memory>
     requires { All IsFiltered styles.now }
-    ensures len { IfOk result (λ marks. length marks.items ≡ 4096) }
-    ensures listed { IfOk result (λ marks. (k : ℕ) → k < 4096 → slice_index_or marks.items k false ≡ is_listed styles.now k) }
+    ensures len { IfOk result (λ marks. length marks.items ≡ NAMEABLE) }
+    ensures listed { IfOk result (λ marks. (k : ℕ) → k < NAMEABLE → slice_index_or marks.items k false ≡ is_listed styles.now k) }
 {
     let mut marks = vec![in alloc; false; NAMEABLE]?;
     for style in styles {

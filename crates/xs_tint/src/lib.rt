@@ -2,9 +2,9 @@
 //! palette that shows at a row, and the tints of a render, each with one number.
 #![tactic(auto)]
 
-pub mod dropped;
-pub mod shown;
-pub mod tints;
+mod dropped;
+mod shown;
+mod tints;
 
 pub use dropped::Dropped;
 pub use shown::palette_at;

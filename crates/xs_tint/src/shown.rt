@@ -8,6 +8,7 @@ ghost use Rattle.xs_tint.specs.KeysTaken.{sets};
 
 use crate::dropped::Dropped;
 use std::alloc::Global;
+use xs_meaning::filters::{palette_keys_are_chosen_by_row, tint_is_canonical};
 use xs_palette::{Palette, PaletteFault};
 use xs_pixel::{Memory, Style};
 use xs_scene::{Colours, StyleKey};
@@ -27,6 +28,8 @@ pub fn palette_at(alloc: Global, c: &Colours, row: u32, f: &Dropped) -> Result<P
     ensures styles { IfOk result (λ p. style_of p ≡ style_at c.now row (dropped_by f.now)) }
     ensures tint { IfOk result (λ p. tint_of p ≡ tint_at c.now row (dropped_by f.now)) }
 {
+    palette_keys_are_chosen_by_row();
+    tint_is_canonical();
     let mut styles = styles_at(alloc, c, row)?;
     clear_dropped(&mut styles, f);
     match Palette::from_styles(alloc, styles.as_slice()) {

@@ -3,6 +3,7 @@ ghost use Rattle.xs_tint.specs.Tints.{tint_of};
 
 use std::alloc::{AllocError, Global};
 use std::marker::Model;
+use xs_meaning::filters::clear_pixels_at_the_end_tell_nothing;
 use xs_palette::Palette;
 use xs_pixel::Memory;
 
@@ -94,6 +95,7 @@ impl Tints {
 fn is_same(a: &Palette, b: &Palette) -> bool
     ensures { IsTrue result ↔ (tint_of a.now ≡ tint_of b.now) }
 {
+    clear_pixels_at_the_end_tell_nothing();
     let count = a.table().len().max(b.table().len()) / 4;
     for id in 0..count as u32 {
         if a.style(id) != b.style(id) {

@@ -10,7 +10,7 @@ returns-then-is_err g c =
     let below : c.loop-i.i < length c.args.items.now = omega arith in
     let at : c.item.result ≡ index_at c.args.at.now c.loop-i.i = let k = c.in-Ok.ensures in cc in
     let failed : is_err c.look-looked.result ≡ true = cc in
-    each_failed (λ i x. g.R.Rule.finds c.args.rule.now (index_at c.args.at.now i) x) c.args.items.now c.loop-i.i c.index-items-i.result
+    each_failed (λ i x. g.R.Requirement.finds c.args.required.now (index_at c.args.at.now i) x) c.args.items.now c.loop-i.i c.index-items-i.result
     _ below c.index-items-i.is c.look-looked.result failed (rw at at c.look-looked.ensures) c.loop-i.invariant
 
 pub loop-i-preserved : goal.loop-i-preserved
@@ -18,5 +18,5 @@ loop-i-preserved g c =
     let below : c.loop-i.i < length c.args.items.now = omega arith in
     let at : c.item.result ≡ index_at c.args.at.now c.loop-i.i = let k = c.in-Ok.ensures in cc in
     let passed : is_err c.look-looked.result ≡ false = cc in
-    each_passed (λ i x. g.R.Rule.finds c.args.rule.now (index_at c.args.at.now i) x) c.args.items.now c.loop-i.i c.index-items-i.result
+    each_passed (λ i x. g.R.Requirement.finds c.args.required.now (index_at c.args.at.now i) x) c.args.items.now c.loop-i.i c.index-items-i.result
     _ below c.index-items-i.is (finds_none _ c.look-looked.result passed (rw at at c.look-looked.ensures)) c.loop-i.invariant

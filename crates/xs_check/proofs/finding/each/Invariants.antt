@@ -6,5 +6,5 @@ use Rattle.xs_check.proofs.finding.each.Given as goal
 
 abbrev pub invariant-loop-i : goal.invariant-loop-i
 invariant-loop-i g l =
-    Covers (Each (λ i x. g.R.Rule.finds l.rule (index_at l.at i) x) l.i (drop l.i l.items))
-    (Each (λ i x. g.R.Rule.finds l.rule (index_at l.at i) x) 0 l.items)
+    Covers (Each (λ i x. g.R.Requirement.finds l.required (index_at l.at i) x) l.i (drop l.i l.items))
+    (Each (λ i x. g.R.Requirement.finds l.required (index_at l.at i) x) 0 l.items)

@@ -7,8 +7,8 @@ use Rattle.xs_index.proofs.order.begun.Goals as goal
 pub returns : goal.returns
 returns g c =
     let point =
-    IsPartitionPoint-from_clause (has_begun g.T.Timed.group_of g.T.Timed.row_of c.args.group c.args.row) _ _ c.partition_point.ensures.partitioned
-    (partitioned g.T.Timed.group_of g.T.Timed.row_of _ c.args.group c.args.row c.requires) (λ a r q k. search rules)
+    IsPartitionPoint-from_clause (has_begun g.T.HasRow.group_of g.T.HasRow.row_of c.args.group c.args.row) _ _ c.partition_point.ensures.partitioned
+    (partitioned g.T.HasRow.group_of g.T.HasRow.row_of _ c.args.group c.args.row c.requires) (λ a r q k. search rules)
     in
     record {
       within = c.partition_point.ensures.bound;

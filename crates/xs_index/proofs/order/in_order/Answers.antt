@@ -7,8 +7,8 @@ use Rattle.xs_index.proofs.order.in_order.Goals as goal
 
 pub returns : goal.returns
 returns g c =
-    let group = g.T.Timed.group_of in
-    let row = g.T.Timed.row_of in
+    let group = g.T.HasRow.group_of in
+    let row = g.T.HasRow.row_of in
     let sorted = c.sort_by_key-2.new.self.items in
     let rows = c.in_ok-sort_by_key.ensures.sorted row (answers_always _ _ _ (λ f a r h k. search rules)) in
     let ties = ties_still_rise row group c.sort_by_key.new.self.items sorted rows (c.sort_by_key-2.ensures.stable group (answers_always _ _ _ (λ f a r h k. search rules))) in

@@ -8,7 +8,7 @@ returns-then-row-exposure c column moved apart =
     let e = c.in-Some.exposure in
     let to : c.exposure.inside.to ≡ e.to = ap (λ (x : ExposureRecord). x.to) c.exposure.view_is in
     let here : c.args.row ≤ e.to = omega (arith, c.if-row-exposure.true) in
-    c.seen_at.ensures ∙ cell_found column c.args.cells.now c.args.row moved apart e c.in-Some.ensures here
+    c.seen_at.ensures ∙ cell_found column c.args.cells.now c.args.row moved apart (c.cells_are_chosen_by_row.ensures.shown column c.args.row) e c.in-Some.ensures here
 
 pub returns-else-row-exposure : goal.returns-else-row-exposure
 returns-else-row-exposure c column moved apart =
@@ -17,8 +17,8 @@ returns-else-row-exposure c column moved apart =
     let to : c.exposure.inside.to ≡ e.to = ap (λ (x : ExposureRecord). x.to) c.exposure.view_is in
     let rows : e.from ≤ e.to = omega (arith, c.exposure.invariant.rows) in
     let past : e.to < c.args.row = omega (arith, c.if-row-exposure.false) in
-    cell_gap column c.args.cells.now c.args.row moved apart e c.in-Some.ensures rows past
+    cell_gap column c.args.cells.now c.args.row moved apart (c.cells_are_chosen_by_row.ensures.gap column c.args.row) e c.in-Some.ensures rows past
 
 pub returns-in_default : goal.returns-in_default
 returns-in_default c column moved apart =
-    cell_none column c.args.cells.now c.args.row moved apart (c.in_default.ensures)
+    cell_none column c.args.cells.now c.args.row moved apart (c.cells_are_chosen_by_row.ensures.gap column c.args.row) c.in_default.ensures

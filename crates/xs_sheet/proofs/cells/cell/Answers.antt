@@ -1,6 +1,6 @@
 use Rattle.std.proofs.Common.{◌≡◌, ◌≤◌, length, sym, ap, ◌∙◌, subst, ltb-false, List}
 use Rattle.xs_scene.specs.Records.{SheetRecord, ColumnRecord}
-use Rattle.xs_sheet.proofs.Chosen.{cell_at-no_column}
+use Rattle.xs_sheet.proofs.ShownCells.{cell_at-no_column}
 use Rattle.xs_sheet.proofs.cells.cell.Goals as goal
 
 pub returns-in-None : goal.returns-in-None

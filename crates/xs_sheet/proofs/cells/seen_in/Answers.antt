@@ -2,7 +2,7 @@ use Rattle.std.proofs.Common.{◌≡◌, true, Some, leb, find, sym, ap, ◌∙�
 use Rattle.std.proofs.lemmas.Bool.{and_from}
 use Rattle.xs_scene.specs.Records.{ColumnRecord, ExposureRecord}
 use Rattle.xs_meaning.specs.Cells.{covers}
-use Rattle.xs_sheet.proofs.Chosen.{cell_at-found, cell_at-none, find_here, find_past}
+use Rattle.xs_sheet.proofs.ShownCells.{cell_at-found, cell_at-none, find_here, find_past}
 use Rattle.xs_sheet.proofs.cells.seen_in.Goals as goal
 
 pub returns-then-row-exposure : goal.returns-then-row-exposure

@@ -1,4 +1,4 @@
-use Rattle.std.proofs.Common.{arith, sym, ap, ◌∙◌}
+use Rattle.std.proofs.Common.{arith}
 use Rattle.xs_tint.proofs.KeysInForce.{AreTaken-more}
 use Rattle.xs_tint.proofs.shown.styles_at.Goals as goal
 

@@ -1,7 +1,7 @@
-use Rattle.std.proofs.Common.{List, sym, ap, ◌∙◌, subst}
+use Rattle.std.proofs.Common.{List, find, sym, ap, ◌∙◌, subst}
 use Rattle.std.specs.List.Sorted.{IsPermutation}
 use Rattle.xs_scene.specs.Records.{SceneRecord, ExposureRecord}
-use Rattle.xs_meaning.specs.Cells.{cell_at}
+use Rattle.xs_meaning.specs.Cells.{cell_at, covers}
 use Rattle.xs_meaning.specs.Walk.{sheet_at, column_at}
 use Rattle.xs_check.specs.Readers.{IsSeen}
 use Rattle.xs_check.proofs.Readings.{cell_there, cells_apart}
@@ -28,4 +28,5 @@ returns-clause-there c =
     in
     subst (λ (s : SceneRecord). IsSeen s c.seen_in.result) c.self.view_is
     (subst (IsSeen s) (sym (c.seen_in.ensures column moved (cells_apart s c.self.invariant.good c.args.sheet c.args.column)))
-    (cell_there s c.self.invariant.good c.args.sheet c.args.column c.args.row))
+    (cell_there s c.self.invariant.good c.args.sheet c.args.column c.args.row (find (covers c.args.row) column.cells)
+    (c.cells_are_chosen_by_row.ensures.own column c.args.row)))

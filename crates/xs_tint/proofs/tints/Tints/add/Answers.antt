@@ -1,4 +1,4 @@
-use Rattle.std.proofs.Common.{◌≡◌, ◌+◌, length, List, map, Some, [], ◌∷◌, ◌++◌, Contains, arith, rules, sym, ap, ◌∙◌, subst}
+use Rattle.std.proofs.Common.{◌≡◌, ◌+◌, length, List, [], ◌∷◌, ◌++◌, Contains, arith, rules, ap, ◌∙◌, subst}
 use Rattle.std.proofs.lemmas.List.{length_push}
 use Rattle.xs_pixel.specs.Channels.{Channels}
 use Rattle.xs_tint.specs.Tints.{tint_of}

@@ -1,4 +1,4 @@
-use Rattle.std.proofs.Common.{◌≡◌, ◌≢◌, ℕ, ◌<◌, List, get_or}
+use Rattle.std.proofs.Common.{◌≢◌, ℕ, ◌<◌, List, get_or}
 use Rattle.xs_pixel.specs.Channels.{Channels}
 use Rattle.xs_tint.specs.Tints.{tint_of}
 use Rattle.xs_tint.proofs.tints.Tints.find.Given as goal
