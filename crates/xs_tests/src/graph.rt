@@ -5,17 +5,22 @@ use std::test::Fail;
 use xs_graph::{Told, first_by_labels, first_by_search, first_long, first_on_cycle};
 use xs_pixel::List;
 
+/// The nodes among the first three that the last three bits of a number tell.
+fn targets(alloc: Global, bits: u32) -> Result<List<u32>, AllocError> {
+    let mut targets = Vec::new(alloc);
+    for node in 0..3_u32 {
+        if bits >> node & 1 == 1 {
+            targets.push(node)?;
+        }
+    }
+    Ok(List::of(targets))
+}
+
 /// The graph on three nodes in which a bit of a number tells each of the nine links.
 fn graph(alloc: Global, bits: u32) -> Result<List<List<u32>>, AllocError> {
     let mut links = Vec::new(alloc);
-    for a in 0..3_u32 {
-        let mut targets = Vec::new(alloc);
-        for b in 0..3_u32 {
-            if bits >> (3 * a + b) & 1 == 1 {
-                targets.push(b)?;
-            }
-        }
-        links.push(List::of(targets))?;
+    for node in 0..3_u32 {
+        links.push(targets(alloc, bits >> (3 * node))?)?;
     }
     Ok(List::of(links))
 }
