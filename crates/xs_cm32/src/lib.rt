@@ -4,6 +4,3 @@
 mod word;
 
 pub use word::{Cm32, colour, pure_tones, word_at, word_layout, words_have_pixels};
-
-#[cfg(test)]
-mod tests;

@@ -14,6 +14,3 @@ mod values;
 
 pub use frame::{frame_direct, held_drawings_make_the_frame, pixel_at};
 pub use held::are_drawings_held;
-
-#[cfg(test)]
-mod tests;

@@ -11,6 +11,3 @@ mod walk;
 pub use chains::first_long;
 pub use labels::{Told, first_by_labels, first_on_cycle};
 pub use search::first_by_search;
-
-#[cfg(test)]
-mod tests;

@@ -10,6 +10,3 @@ pub mod out_notes;
 pub use folder_library::FolderLibrary;
 pub use folder_shelf::FolderShelf;
 pub use out_notes::OutNotes;
-
-#[cfg(test)]
-mod tests;

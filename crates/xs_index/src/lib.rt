@@ -11,6 +11,3 @@ pub use has_row::HasRow;
 pub use index::{Index, SheetIndex};
 pub use order::in_order;
 pub use search::{key_in, offset_in, seen_in};
-
-#[cfg(test)]
-mod tests;

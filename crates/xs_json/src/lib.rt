@@ -18,6 +18,3 @@ pub use objects::{all_there, has_any, object, optional, required};
 pub use path::Path;
 pub use place::{Place, fault_at};
 pub use values::{flag, list, text, whole};
-
-#[cfg(test)]
-mod tests;

@@ -12,6 +12,3 @@ mod rows;
 pub use cm32::cm32_row;
 pub use fill::fill_row;
 pub use rows::op_row;
-
-#[cfg(test)]
-mod tests;

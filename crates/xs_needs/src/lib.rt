@@ -12,6 +12,3 @@ mod rule;
 mod spot;
 
 pub use needs::row_drawings;
-
-#[cfg(test)]
-mod tests;

@@ -25,6 +25,3 @@ pub use notes::{Noted, Notes};
 pub use object::Object;
 pub use quiet_library::QuietLibrary;
 pub use shelf::{Put, Shelf};
-
-#[cfg(test)]
-mod tests;

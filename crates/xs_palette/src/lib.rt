@@ -6,6 +6,3 @@ mod palette;
 
 pub use fault::PaletteFault;
 pub use palette::{MOST_STYLES, Palette, palette_crosses_threads};
-
-#[cfg(test)]
-mod tests;

@@ -18,6 +18,3 @@ pub use memory::Memory;
 pub use operation::{Op, add, apply, matte_in, matte_out, max, min, mul255, mult, over, sub};
 pub use pixel::Pixel;
 pub use style::Style;
-
-#[cfg(test)]
-mod tests;

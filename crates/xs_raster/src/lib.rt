@@ -18,6 +18,3 @@ pub fn rasters_cross_threads() {
 }
 
 fn crosses_threads<T: Send + Sync>() {}
-
-#[cfg(test)]
-mod tests;

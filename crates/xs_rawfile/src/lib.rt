@@ -15,6 +15,3 @@ pub use drawings::{Drawings, drawings_cross_threads};
 pub use fault::{LevelCode, LevelFault};
 pub use frame::{FRAME_HEADER, frame_bytes, push_frame_header};
 pub use level::{level_format, read_level, write_level};
-
-#[cfg(test)]
-mod tests;

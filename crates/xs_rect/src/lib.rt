@@ -7,6 +7,3 @@ mod tiling;
 
 pub use rect::Rect;
 pub use tiling::tiles;
-
-#[cfg(test)]
-mod tests;

@@ -5,6 +5,3 @@
 mod scene;
 
 pub use scene::{decode, encode, text_faults};
-
-#[cfg(test)]
-mod tests;

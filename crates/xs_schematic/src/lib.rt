@@ -8,6 +8,3 @@ mod visits;
 
 pub use rendered::terminals;
 pub use visits::order;
-
-#[cfg(test)]
-mod tests;

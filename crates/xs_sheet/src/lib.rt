@@ -11,6 +11,3 @@ pub use cells::cell;
 pub use keys::own_offset;
 pub use pegs::place;
 pub use xs_scene::Seen;
-
-#[cfg(test)]
-mod tests;

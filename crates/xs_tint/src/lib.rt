@@ -9,6 +9,3 @@ mod tints;
 pub use dropped::Dropped;
 pub use shown::palette_at;
 pub use tints::Tints;
-
-#[cfg(test)]
-mod tests;

@@ -28,6 +28,3 @@ pub const SCENE_LIMIT: u64 = 16_777_216;
 
 /// The most bytes that the file of a drawing may have.
 pub const DRAWING_LIMIT: u64 = 67_108_885;
-
-#[cfg(test)]
-mod tests;

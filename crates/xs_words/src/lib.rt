@@ -11,6 +11,3 @@ pub use command::Command;
 pub use fault::{Usage, WordsFault};
 pub use laws::{first_fault_is_told, words_are_read_back};
 pub use reading::read_words;
-
-#[cfg(test)]
-mod tests;

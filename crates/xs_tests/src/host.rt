@@ -1,6 +1,6 @@
-use super::*;
 use std::test::Fail;
 use std::{fs, io};
+use xs_host::{FolderLibrary, FolderShelf, OutNotes};
 use xs_outside::{Fetched, Library, Noted, Notes, Put, Shelf};
 
 /// The bytes that the working folder has under this name, or why there are none.

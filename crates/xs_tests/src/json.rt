@@ -1,6 +1,6 @@
-use super::*;
 use serde_json::Value;
 use std::test::Fail;
+use xs_json::{Field, Path, Place, SceneCode, flag, list, object, optional, required, text, whole};
 
 #[test]
 fn paths_are_printed(rt: HostRuntime) -> Result<(), Fail> {

@@ -1,6 +1,6 @@
-use super::*;
 use std::test::Fail;
 use xs_json::FieldFault;
+use xs_scene_json::{decode, encode};
 
 const TEXT: &[u8] =
     br#"{"format":1,"camera":{"w":1,"h":1},"palettes":[],"levels":[{"kind":"colour","drawings":["d.xrl"]}],"sheets":[{"columns":[{"cells":[{"from":1,"to":1,"level":0,"drawing":0}]}]}]}"#;

@@ -1,8 +1,6 @@
-use crate::raster::Raster;
-use crate::tile::Tile;
-use crate::tile_ref::TileRef;
 use std::alloc::Global;
 use std::test::Fail;
+use xs_raster::{Raster, Tile, TileRef};
 use xs_rect::Rect;
 
 /// A clear raster of this rectangle.

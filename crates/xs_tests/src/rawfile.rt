@@ -1,14 +1,12 @@
-use crate::drawing::{Drawing, RawKind};
-use crate::drawings::Drawings;
-use crate::fault::{LevelCode, LevelFault};
-use crate::frame::frame_bytes;
-use crate::level::{read_level, write_level};
 use std::alloc::Global;
 use std::marker::Brand;
 use std::test::Fail;
 use xs_palette::Palette;
 use xs_pixel::{List, Pixel, Style};
 use xs_raster::Raster;
+use xs_rawfile::{
+    Drawing, Drawings, LevelCode, LevelFault, RawKind, frame_bytes, read_level, write_level,
+};
 use xs_rect::Rect;
 
 /// The file of one pixel at the origin.

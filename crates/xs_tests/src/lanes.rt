@@ -5,10 +5,10 @@ ghost use Rattle.std.specs.Simd.Lanes.{Each1};
 ghost use Rattle.xs_pixel.specs.Channels.{IsPixel};
 ghost use Rattle.xs_pixel.specs.Rows.{pixels};
 
-use crate::{cm32_row, fill_row, op_row, plain};
 use std::alloc::{AllocError, Global};
 use std::process::Abort;
 use std::test::Fail;
+use xs_lanes::{cm32_row, fill_row, op_row, plain};
 use xs_palette::Palette;
 use xs_pixel::{Op, Pixel, Style};
 

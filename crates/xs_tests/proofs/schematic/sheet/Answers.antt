@@ -8,7 +8,7 @@ use Rattle.xs_scene.specs.Records.{SheetRecord}
 use Rattle.xs_meaning.specs.Ends.{NodesEnd}
 use Rattle.xs_schematic.specs.Order.{IsOrderable}
 use Rattle.xs_schematic.specs.Visits.{inputs_in}
-use Rattle.xs_schematic.proofs.tests.sheet.Goals as goal
+use Rattle.xs_tests.proofs.schematic.sheet.Goals as goal
 
 abbrev tested : List Node
 tested =

@@ -1,9 +1,8 @@
 //! Palettes from outside, which the clauses of this crate have to mean.
 
-use crate::fault::PaletteFault;
-use crate::palette::Palette;
 use std::alloc::{AllocError, Global};
 use std::test::Fail;
+use xs_palette::{Palette, PaletteFault};
 use xs_pixel::Style;
 
 fn grey(level: u8) -> Style {

@@ -1,7 +1,7 @@
 //! Words from outside, which the clauses of this crate have to mean.
 
-use crate::word::{Cm32, colour};
 use std::test::Fail;
+use xs_cm32::{Cm32, colour};
 use xs_pixel::Pixel;
 
 #[test]

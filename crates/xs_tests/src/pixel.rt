@@ -1,12 +1,8 @@
 //! Vectors from outside, which the clauses of this crate have to mean.
 
-use crate::list::List;
-use crate::memory::Memory;
-use crate::operation::{Op, apply};
-use crate::pixel::Pixel;
-use crate::style::Style;
 use std::alloc::{AllocError, AllocFailed};
 use std::test::Fail;
+use xs_pixel::{List, Memory, Op, Pixel, Style, apply};
 
 /// An operation, its upper and lower pixel, and the result.
 type Vector = (Op, [u8; 4], [u8; 4], [u8; 4]);

@@ -1,10 +1,9 @@
 ghost use Rattle.std.specs.Prelude.{◌≤◌};
 
-use crate::rect::Rect;
-use crate::tiling::tiles;
 use std::alloc::{AllocError, Global};
 use std::process::Abort;
 use std::test::Fail;
+use xs_rect::{Rect, tiles};
 
 type Sides = (i32, i32, u32, u32);
 

@@ -1,13 +1,14 @@
-//! The order of nodes that share inputs and stand in no order themselves.
+//! The order of nodes that share inputs and stand in no order themselves, and what is rendered.
 
 ghost use Rattle.std.specs.Prelude.{IfOk};
 ghost use Rattle.xs_schematic.specs.Order.{IsOrderable};
 
-use crate::order;
+use crate::scenes::{OF_EACH_KIND, good_scene};
 use std::alloc::Global;
 use std::test::Fail;
 use xs_pixel::{List, Op, Style};
 use xs_scene::{Node, Ref, Sheet};
+use xs_schematic::{order, terminals};
 
 /// Node 0 is made from 3 and 1, both of these from 4, and 2 from 0.
 fn sheet(alloc: Global) -> Result<Sheet, Fail>
@@ -50,5 +51,14 @@ fn each_node_comes_once_after_its_inputs_where_it_is_first_met(
     let sheet = sheet(rt.alloc())?;
     let order = order(rt.alloc(), &sheet)?;
     assert_eq!(rt; order.as_slice(), [4, 3, 1, 0, 2].as_slice());
+    Ok(())
+}
+
+#[test]
+fn columns_that_are_off_are_not_rendered(rt: HostRuntime) -> Result<(), Fail> {
+    let scene = good_scene(rt.alloc(), OF_EACH_KIND)?;
+    scene.scene();
+    let rendered = terminals(rt.alloc(), scene.sheet(0))?;
+    assert_eq!(rt; rendered.as_slice(), [Ref::Column(1)].as_slice());
     Ok(())
 }

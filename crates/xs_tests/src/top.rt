@@ -1,7 +1,7 @@
-use super::*;
 use std::alloc::Global;
 use std::test::Fail;
 use xs_outside::{MemLibrary, MemNotes, MemShelf, Object};
+use xs_top::{run, status_number};
 
 /// A drawing on rows 8 and 9, before a camera of one pixel.
 const SCENE: &str =

@@ -1,6 +1,9 @@
-use super::*;
 use std::alloc::{AllocError, Global};
 use std::test::Fail;
+use xs_outside::{
+    Fetched, Library, MemLibrary, MemNotes, MemShelf, Noted, Notes, Object, Put, QuietLibrary,
+    Shelf,
+};
 use xs_pixel::Memory;
 
 /// Two files of one name, with one byte and with two.

@@ -1,11 +1,11 @@
 //! A palette with keys at several rows under filters, and the numbers of palettes.
 
-use crate::{Dropped, Tints, palette_at};
 use std::alloc::Global;
 use std::test::Fail;
 use xs_palette::Palette;
 use xs_pixel::{List, Style};
 use xs_scene::{Colours, StyleKey};
+use xs_tint::{Dropped, Tints, palette_at};
 
 fn opaque(r: u8, g: u8, b: u8) -> Style {
     Style { r, g, b, a: 255 }
@@ -98,5 +98,17 @@ fn palettes_with_the_same_pixels_have_one_number(rt: HostRuntime) -> Result<(), 
     )?;
     let none = number(rt.alloc(), &mut tints, &[])?;
     assert!(rt; [red, green, same, none] == [0, 1, 0, 2]);
+    Ok(())
+}
+
+#[test]
+fn a_palette_comes_back_by_its_number(rt: HostRuntime) -> Result<(), Fail> {
+    let styles = [opaque(1, 1, 1), opaque(0, 255, 0)];
+    let palette = Palette::from_styles(rt.alloc(), &styles)
+        .ok()
+        .ok_or("a palette")?;
+    let mut tints = Tints::new(rt.alloc())?;
+    let number = tints.intern(palette)?;
+    assert_eq!(rt; tints.palette(number).style(1).to_bytes(), [0, 255, 0, 255]);
     Ok(())
 }

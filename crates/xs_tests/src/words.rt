@@ -1,10 +1,8 @@
 //! Command lines with the command or the first fault that they have.
 
-use crate::command::Command;
-use crate::fault::{Usage, WordsFault};
-use crate::reading::read_words;
 use std::alloc::{AllocError, Global};
 use std::test::Fail;
+use xs_words::{Command, Usage, WordsFault, read_words};
 
 fn words_of(alloc: Global, line: &str) -> Result<Vec<String>, AllocError> {
     let mut words = Vec::new(alloc);

@@ -1,10 +1,10 @@
 //! Places of a peg with line keys, which stand in any order.
 
-use crate::keys::own_offset;
 use std::alloc::Global;
 use std::test::Fail;
 use xs_pixel::{List, Memory};
 use xs_scene::{Peg, PegKey};
+use xs_sheet::own_offset;
 
 fn peg(alloc: Global, keys: &[PegKey]) -> Result<Option<Peg>, Memory> {
     Ok(Peg::new(None, List::of(Vec::from_slice(alloc, keys)?)))
