@@ -26,7 +26,7 @@ pub(crate) fn drawing_at<K: Film>(
     requires { d < length (files_of s.now.levels) }
     ensures { result ≡ drawing_pixel (pictures_in drawings.now d) (colouring_at s.now d row (dropped_of f.now)) p }
 {
-    match drawings.find(d) {
+    match drawings.get(d) {
         Some(drawing) => shown_at(s, drawing, d, row, f, p),
         None => Pixel::CLEAR,
     }

@@ -28,7 +28,7 @@ fn are_held<K: Film>(drawings: &Drawings<K>, numbers: &[u32]) -> bool
     ensures { IsTrue result ↔ AreHeld drawings.now numbers.now }
 {
     for &number in numbers {
-        if drawings.find(number).is_none() {
+        if drawings.get(number).is_none() {
             return false;
         }
     }

@@ -63,20 +63,8 @@ impl<K: Film> Drawings<K> {
         self.slots[d as usize] = None;
     }
 
-    /// The drawing with this number; None exactly where it isn't held.
+    /// The drawing with this number; None exactly where none is held, as past the last number.
     pub fn get(&self, d: u32) -> Option<&Drawing>
-        requires { d < length self.now.slots }
-        ensures none { IsNone result ↔ (drawing_in self.now d ≡ None) }
-        ensures value { IfSome result (λ g. drawing_in self.now d ≡ Some g.now) }
-    {
-        match &self.slots[d as usize] {
-            Some((drawing, _)) => Some(drawing),
-            None => None,
-        }
-    }
-
-    /// The drawing with this number, if it is held.
-    pub fn find(&self, d: u32) -> Option<&Drawing>
         ensures none { IsNone result ↔ (drawing_in self.now d ≡ None) }
         ensures value { IfSome result (λ g. drawing_in self.now d ≡ Some g.now) }
     {

@@ -13,7 +13,7 @@ loop-number-preserved g c =
     let d : ℕ = get_or ds i 0 in
     let within : i < length ds = omega arith in
     let some : drawing_in h d ≡ None → ⊥ =
-    λ none. let e : true ≡ false = sym c.if-is_none.ensures ∙ c.find.ensures.none.1 none in cc
+    λ none. let e : true ≡ false = sym c.if-is_none.ensures ∙ c.get.ensures.none.1 none in cc
     in
     held-more h ds i d within (get_or_default ds i 0 d within) some c.loop-number.invariant
 
