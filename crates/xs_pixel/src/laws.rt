@@ -4,7 +4,7 @@
 ghost use Rattle.std.specs.Prelude.{◌≡◌, ℕ, ◌+◌, ◌-◌, ◌*◌, ◌<◌, ◌≤◌, ◌++◌, ℤ, true, List, length, drop};
 ghost use Rattle.std.specs.Simd.Lanes.{chunk, put_chunk};
 ghost use Rattle.xs_pixel.specs.Channels.{Channels, IsPixel, clear};
-ghost use Rattle.xs_pixel.specs.Operations.{product, over_of, add_of, sub_of, mult_of, min_of, max_of, matte_in_of, matte_out_of, apply_of, premultiplied};
+ghost use Rattle.xs_pixel.specs.Operations.{product, over_of, add_of, sub_of, mult_of, min_of, max_of, matte_in_of, matte_out_of, apply_of};
 ghost use Rattle.xs_pixel.specs.Picture.{is_in_box, place_in_box};
 ghost use Rattle.xs_pixel.specs.Rows.{pixels};
 ghost use Rattle.xs_pixel.specs.declared.operation.Op.{Op};
@@ -48,11 +48,6 @@ pub fn operations_keep_pixels()
     ensures { (op : Op) (u d : Channels) → IsPixel u → IsPixel d → IsPixel (apply_of op u d) }
 {}
 
-/// Each style has a pixel.
-pub fn styles_have_pixels()
-    ensures { (r g b a : ℕ) → r ≤ 255 → g ≤ 255 → b ≤ 255 → a ≤ 255 → IsPixel (premultiplied r g b a) }
-{}
-
 /// A row of bytes is a row of pixels, four bytes for each: so are its parts, two rows one after the
 /// other, and a row that is written over a part of it.
 pub fn rows_of_bytes_are_rows_of_pixels()
@@ -66,13 +61,6 @@ pub fn rows_of_bytes_are_rows_of_pixels()
 /// Each point of a box has a place among the points of the box.
 pub fn points_of_a_box_have_places()
     ensures { (x0 y0 : ℤ) (w h : ℕ) (x y : ℤ) → is_in_box x0 y0 w h x y ≡ true → place_in_box x0 y0 w x y < w * h }
-{}
-
-/// A product with 0 is 0, and a product with 255 is the other channel.
-pub fn product_of_clear_and_opaque()
-    ensures clear_first { (y : ℕ) → product 0 y ≡ 0 }
-    ensures clear_second { (x : ℕ) → product x 0 ≡ 0 }
-    ensures opaque { (x : ℕ) → product x 255 ≡ x }
 {}
 
 /// The product of two channels is the whole number nearest to their product in parts of 255: it is
