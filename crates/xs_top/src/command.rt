@@ -1,5 +1,7 @@
 ghost use Rattle.std.specs.Prelude.{◌≡◌, ◌≤◌, ◌⊎◌, ℕ, List, Some, Ok, IfOk, IsErrOf, map, string_bytes, None, true, false};
+ghost use Rattle.serde_json.specs.Written.{compact_text};
 ghost use Rattle.xs_outside.specs.Told.{Rose, more};
+ghost use Rattle.xs_scene_json.specs.SceneData.{scene_data};
 ghost use Rattle.xs_words.specs.Commands.{IsCommand};
 ghost use Rattle.xs_words.specs.Grammar.{reading_of};
 ghost use Rattle.xs_top.specs.Causes.{answer_of, is_of_library, is_of_output};
@@ -16,6 +18,7 @@ use crate::status::{Status, status_of};
 use crate::steps::note;
 use std::alloc::Global;
 use std::marker::Brand;
+use xs_check::GoodScene;
 use xs_check::laws::checking_finds_one_thing;
 use xs_outside::{Library, Notes, Shelf};
 use xs_pixel::Memory;
@@ -72,6 +75,13 @@ fn render<L: Library, S: Shelf, T: Notes>(
     Ok(())
 }
 
+/// The one text of a scene in format 2.
+fn shown_line(alloc: Global, good: GoodScene) -> Result<Vec<u8>, Memory>
+    ensures { IfOk result (λ line. line.items ≡ compact_text (scene_data (record good { format = 2 }))) }
+{
+    encode(alloc, &good.into_scene().migrated())
+}
+
 /// Writes the one text of a scene in format 2.
 fn show<L: Library, T: Notes>(
     alloc: Global,
@@ -87,7 +97,7 @@ fn show<L: Library, T: Notes>(
     ensures notes { LeavesOutput (T.faults notes.old) (T.faults notes.new) (answer_of result) }
 {
     let good = load_scene(alloc, lib, scene)?;
-    let line = encode(alloc, &good.into_scene().migrated())?;
+    let line = shown_line(alloc, good)?;
     note(alloc, notes, line.as_slice())?;
     Ok(())
 }

@@ -27,7 +27,7 @@ returns-in_err-note-clause-told g c = λ files e verdict right seen.
     let before : Contents = with_notes seen (g.T.Notes.written c.args.notes.now) in
     let loaded = c.in_ok-good.ensures.told files e verdict right showing_scene before in
     let read : Contents = with_asked seen (g.L.Library.asked c.load_scene.new.lib) in
-    let noted = rw (c.as_slice.ensures.value, c.in_ok-line.ensures.text, c.migrated.ensures, c.into_scene.ensures) at (c.in_err-note.ensures.told (ended answers.Ok) refl read) in
+    let noted = rw (c.as_slice.ensures.value, c.in_ok-line.ensures) at (c.in_err-note.ensures.told (ended answers.Ok) refl read) in
     rw (p.1, p.2) (stopped_then _ _ _ _ _ _ loaded noted)
 
 pub returns-clause-told : goal.returns-clause-told
@@ -36,5 +36,5 @@ returns-clause-told g c = λ files e verdict right seen.
     let before : Contents = with_notes seen (g.T.Notes.written c.args.notes.now) in
     let loaded = c.in_ok-good.ensures.told files e verdict right showing_scene before in
     let read : Contents = with_asked seen (g.L.Library.asked c.load_scene.new.lib) in
-    let noted = rw (c.as_slice.ensures.value, c.in_ok-line.ensures.text, c.migrated.ensures, c.into_scene.ensures) at (c.in_ok-note.ensures.told (ended answers.Ok) refl read) in
+    let noted = rw (c.as_slice.ensures.value, c.in_ok-line.ensures) at (c.in_ok-note.ensures.told (ended answers.Ok) refl read) in
     did_then loaded noted
