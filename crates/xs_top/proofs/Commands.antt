@@ -5,7 +5,6 @@ use Rattle.xs_words.specs.declared.fault.WordsFault.{WordsFault}
 use Rattle.xs_words.specs.declared.fault.WordsFault.TheVariants as words_fault
 use Rattle.xs_words.specs.Grammar.{reading_of, Reads}
 use Rattle.xs_top.specs.declared.status.Status.{Status}
-use Rattle.xs_top.specs.declared.status.Status.TheVariants as answers
 use Rattle.xs_top.specs.Trace.{Contents, Outcome, puts, ended}
 use Rattle.xs_top.specs.Causes.{is_of_library, is_of_output}
 use Rattle.xs_top.specs.Runs.{Stopped}
