@@ -6,7 +6,8 @@ top=$(cd "$(dirname "$0")/.." && pwd)
 work=$(mktemp -d)
 trap 'rm -rf "$work"' EXIT
 program=$top/crates/xs_timing/out/xs_timing
-(cd "$top/crates/xs_timing" && rt run >"$work/build" 2>&1) || { cat "$work/build"; exit 1; }
+# Without words the program lists its parts and ends with 2.
+(cd "$top/crates/xs_timing" && rt run >"$work/build" 2>&1) || grep -q '^rt: running' "$work/build" || { cat "$work/build"; exit 1; }
 pixman=
 if pkg-config --exists pixman-1 2>/dev/null; then
     cc -O3 -march=x86-64-v2 "$top/bench/kernels.c" -o "$work/kernels" $(pkg-config --cflags --libs pixman-1)

@@ -7,7 +7,8 @@ set -eu
 top=$(cd "$(dirname "$0")/.." && pwd)
 work=$(mktemp -d)
 trap 'rm -rf "$work"' EXIT
-(cd "$top/crates/xs_timing" && rt run >"$work/build" 2>&1) || { cat "$work/build"; exit 1; }
+# Without words the program lists its parts and ends with 2.
+(cd "$top/crates/xs_timing" && rt run >"$work/build" 2>&1) || grep -q '^rt: running' "$work/build" || { cat "$work/build"; exit 1; }
 python3 - "$top/crates/xs_timing/out/xs_timing" <<'END'
 import subprocess, sys
 

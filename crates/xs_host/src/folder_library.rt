@@ -65,7 +65,7 @@ fn read_file<R: Files>(rt: &R, alloc: Global, name: &str, limit: u64) -> Fetched
     Fetched::Bytes(bytes)
 }
 
-#[tactic(auto, using(xs_outside::proofs::Growth::asked_untold))]
+#[tactic(auto, unfolding(xs_outside::specs::Told::more))]
 impl<R: Files> Library for FolderLibrary<'_, R> {
     ghost files = { λ _. None };
 

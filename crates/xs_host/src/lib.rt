@@ -3,9 +3,9 @@
 //! xs_outside demand, and to tell nothing of what a folder or a terminal holds.
 #![tactic(auto)]
 
-pub mod folder_library;
-pub mod folder_shelf;
-pub mod out_notes;
+mod folder_library;
+mod folder_shelf;
+mod out_notes;
 
 pub use folder_library::FolderLibrary;
 pub use folder_shelf::FolderShelf;

@@ -7,7 +7,7 @@ use std::marker::Model;
 /// Which calls of an object in memory fail, how many calls there were and how many faults. Both
 /// counts stand still at 2^64 - 1.
 #[derive(Debug, Drop)]
-pub struct Calls {
+pub(crate) struct Calls {
     fails: Vec<u64>,
     made: u64,
     faults: u64,
@@ -23,7 +23,7 @@ impl Model for Calls {
 
 impl Calls {
     /// No call yet; those with these numbers, from 1, will fail.
-    pub fn new(fails: Vec<u64>) -> Calls
+    pub(crate) fn new(fails: Vec<u64>) -> Calls
         ensures { result ≡ record { fails = fails.items; made = 0; faults = 0 } }
     {
         Calls {
@@ -34,7 +34,7 @@ impl Calls {
     }
 
     /// Counts the next call, and answers whether it is one of those that fail.
-    pub fn begin(&mut self) -> bool
+    pub(crate) fn begin(&mut self) -> bool
         ensures fails { IsTrue result ↔ IsFailing self.old }
         ensures made { self.new ≡ passed self.old }
     {
@@ -43,7 +43,7 @@ impl Calls {
     }
 
     /// Counts a fault.
-    pub fn fault(&mut self)
+    pub(crate) fn fault(&mut self)
         ensures faults { self.new ≡ record self.old { faults = counted self.old.faults } }
         ensures later { self.old.faults ≤ self.new.faults }
     {

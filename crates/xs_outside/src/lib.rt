@@ -7,15 +7,15 @@
 //! stands at the largest number, past which it cannot rise.
 #![tactic(auto)]
 
-pub mod calls;
-pub mod library;
-pub mod mem_library;
-pub mod mem_notes;
-pub mod mem_shelf;
-pub mod notes;
-pub mod object;
-pub mod quiet_library;
-pub mod shelf;
+mod calls;
+mod library;
+mod mem_library;
+mod mem_notes;
+mod mem_shelf;
+mod notes;
+mod object;
+mod quiet_library;
+mod shelf;
 
 pub use library::{Fetched, Library};
 pub use mem_library::MemLibrary;

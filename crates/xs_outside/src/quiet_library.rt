@@ -32,7 +32,7 @@ impl<L: Library> QuietLibrary<L> {
     }
 }
 
-#[tactic(auto, using(crate::proofs::Growth::asked_untold))]
+#[tactic(auto, unfolding(crate::specs::Told::more))]
 impl<L: Library> Library for QuietLibrary<L> {
     ghost files = { λ _. None };
 

@@ -24,8 +24,9 @@ pub trait Shelf {
     /// How many faults there were: a number below 2^64 that never falls.
     ghost faults: { Self → ℕ };
 
-    /// Puts a file of this name with these bytes last on the shelf. A call that is not `Done` leaves
-    /// the files as they were.
+    /// Puts a file of this name with these bytes last on the shelf. Where one of that name is there
+    /// already, it stays among the files told; a folder, which tells none, replaces it. A call that is
+    /// not `Done` leaves the files as they were.
     fn put(&mut self, alloc: Global, name: &str, bytes: &[u8]) -> Put
         ensures answer { IsPut (objects self.old) (objects self.new)
             (record { name = name.now; bytes = bytes.now })

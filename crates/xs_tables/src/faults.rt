@@ -4,7 +4,7 @@ use crate::outside::{Failing, Outside};
 use crate::render::{Ended, push_asked, push_noted, run_over, status_text};
 use std::alloc::Global;
 use std::io;
-use xs_outside::{MemShelf, Object};
+use xs_outside::{MemLibrary, MemShelf, Object};
 use xs_top::Status;
 
 /// The most calls of one kind that are tried.
@@ -40,17 +40,22 @@ fn push_frames(
     Ok(text.push_str(frames.as_str())?)
 }
 
+/// A new line with the call and its answer.
+fn push_head(text: &mut String, alloc: Global, call: &str, status: &Status) -> io::Result<()> {
+    let status = status_text(alloc, status)?;
+    let head = format!(in alloc; "\n  {call}: {status}, ")?;
+    Ok(text.push_str(head.as_str())?)
+}
+
 /// The answer, the names asked for, the frames and the notes, on a line that the call heads.
 fn push_ended(
     text: &mut String,
     alloc: Global,
     call: &str,
-    ended: &Ended,
-    whole: &Ended,
+    ended: &Ended<MemLibrary>,
+    whole: &Ended<MemLibrary>,
 ) -> io::Result<()> {
-    let status = status_text(alloc, &ended.status)?;
-    let head = format!(in alloc; "\n  {call}: {status}, ")?;
-    text.push_str(head.as_str())?;
+    push_head(text, alloc, call, &ended.status)?;
     push_asked(text, &ended.library)?;
     text.push_str(", ")?;
     push_frames(text, alloc, &ended.shelf, &whole.shelf)?;
@@ -59,6 +64,22 @@ fn push_ended(
         push_noted(text, &ended.notes)?;
     }
     Ok(())
+}
+
+/// What is left where the call of this kind with this number fails, on a line behind the others; and whether
+/// it failed.
+fn push_fault(
+    lines: &mut String,
+    alloc: Global,
+    outside: &Outside,
+    (kind, number): (&str, u64),
+    words: &str,
+    whole: &Ended<MemLibrary>,
+) -> io::Result<bool> {
+    let ended = run_over(alloc, outside, Failing::at(kind, number), words)?;
+    let call = format!(in alloc; "{kind} {number}")?;
+    push_ended(lines, alloc, call.as_str(), &ended, whole)?;
+    Ok(matches!(ended.status, Status::ReadFault | Status::WriteFault))
 }
 
 /// How many calls of this kind the words make, and what is left where each in turn fails. Behind the last
@@ -73,10 +94,7 @@ pub fn each_fault_text(
     let mut lines = String::new(alloc);
     let mut calls = 0;
     for number in 1..=MOST_CALLS {
-        let ended = run_over(alloc, outside, Failing::at(kind, number), words)?;
-        let call = format!(in alloc; "{kind} {number}")?;
-        push_ended(&mut lines, alloc, call.as_str(), &ended, &whole)?;
-        if !matches!(ended.status, Status::ReadFault | Status::WriteFault) {
+        if !push_fault(&mut lines, alloc, outside, (kind, number), words, &whole)? {
             break;
         }
         calls = number;

@@ -5,7 +5,7 @@ use crate::frame::push_frame;
 use crate::outside::{Failing, Outside};
 use std::alloc::Global;
 use std::{io, str};
-use xs_outside::{MemLibrary, MemNotes, MemShelf, QuietLibrary};
+use xs_outside::{Library, MemLibrary, MemNotes, MemShelf, QuietLibrary};
 use xs_top::{Status, fault_text, run, status_number};
 
 /// The words of a command line.
@@ -24,11 +24,30 @@ fn push_bytes(text: &mut String, bytes: &[u8]) -> io::Result<()> {
 
 /// What a run answers, and what it leaves.
 #[derive(Debug, Drop)]
-pub struct Ended {
+pub struct Ended<L> {
     pub status: Status,
-    pub library: MemLibrary,
+    pub library: L,
     pub shelf: MemShelf,
     pub notes: MemNotes,
+}
+
+/// What the words leave over this library, where these calls of the shelf and the notes fail.
+fn run_with<L: Library + Drop>(
+    alloc: Global,
+    mut library: L,
+    failing: Failing,
+    words: &str,
+) -> io::Result<Ended<L>> {
+    let words = words_of(alloc, words)?;
+    let mut shelf = MemShelf::new(alloc, vec![in alloc; failing.put]?);
+    let mut notes = MemNotes::new(alloc, vec![in alloc; failing.note]?);
+    let status = run(alloc, &words, &mut library, &mut shelf, &mut notes);
+    Ok(Ended {
+        status,
+        library,
+        shelf,
+        notes,
+    })
 }
 
 /// What the words leave over these files, where these calls fail.
@@ -37,18 +56,9 @@ pub fn run_over(
     outside: &Outside,
     failing: Failing,
     words: &str,
-) -> io::Result<Ended> {
-    let words = words_of(alloc, words)?;
-    let mut library = outside.library(alloc, failing.get)?;
-    let mut shelf = shelf(alloc, failing)?;
-    let mut notes = notes(alloc, failing)?;
-    let status = run(alloc, &words, &mut library, &mut shelf, &mut notes);
-    Ok(Ended {
-        status,
-        library,
-        shelf,
-        notes,
-    })
+) -> io::Result<Ended<MemLibrary>> {
+    let library = outside.library(alloc, failing.get)?;
+    run_with(alloc, library, failing, words)
 }
 
 /// The number of a status and its text.
@@ -81,56 +91,50 @@ pub fn push_noted(text: &mut String, notes: &MemNotes) -> io::Result<()> {
 }
 
 /// The frames on the shelf, and what was noted, if anything.
-fn push_made(
-    text: &mut String,
-    alloc: Global,
-    shelf: &MemShelf,
-    notes: &MemNotes,
-) -> io::Result<()> {
-    for object in shelf.objects() {
+fn push_made<L>(text: &mut String, alloc: Global, ended: &Ended<L>) -> io::Result<()> {
+    for object in ended.shelf.objects() {
         text.push_str("\n  ")?;
         push_bytes(text, object.name.items())?;
         push_frame(text, alloc, object.bytes.items())?;
     }
-    if !notes.bytes().is_empty() {
+    if !ended.notes.bytes().is_empty() {
         text.push_str("\n  ")?;
-        push_noted(text, notes)?;
+        push_noted(text, &ended.notes)?;
     }
     Ok(())
 }
 
-fn shelf(alloc: Global, failing: Failing) -> io::Result<MemShelf> {
-    Ok(MemShelf::new(alloc, vec![in alloc; failing.put]?))
-}
-
-fn notes(alloc: Global, failing: Failing) -> io::Result<MemNotes> {
-    Ok(MemNotes::new(alloc, vec![in alloc; failing.note]?))
-}
-
-/// What the words do over these files, where these calls fail.
-fn run_text(alloc: Global, outside: &Outside, failing: Failing, words: &str) -> io::Result<String> {
-    let ended = run_over(alloc, outside, failing, words)?;
+/// What a run did.
+fn ended_text(alloc: Global, ended: &Ended<MemLibrary>) -> io::Result<String> {
     let mut text = status_text(alloc, &ended.status)?;
     if !ended.library.asked().is_empty() {
         text.push_str("\n  ")?;
         push_asked(&mut text, &ended.library)?;
     }
-    push_made(&mut text, alloc, &ended.shelf, &ended.notes)?;
+    push_made(&mut text, alloc, ended)?;
     Ok(text)
+}
+
+/// What a run over a library that tells nothing did.
+fn quiet_ended_text(alloc: Global, ended: &Ended<QuietLibrary<MemLibrary>>) -> io::Result<String> {
+    let mut text = status_text(alloc, &ended.status)?;
+    let faults = format!(in alloc; "\n  faults {}", ended.library.faults())?;
+    text.push_str(faults.as_str())?;
+    push_made(&mut text, alloc, ended)?;
+    Ok(text)
+}
+
+/// What the words do over these files, where these calls fail.
+fn run_text(alloc: Global, outside: &Outside, failing: Failing, words: &str) -> io::Result<String> {
+    let ended = run_over(alloc, outside, failing, words)?;
+    ended_text(alloc, &ended)
 }
 
 /// What the words do over these files in a library that tells nothing.
 fn quiet_text(alloc: Global, outside: &Outside, words: &str) -> io::Result<String> {
-    let words = words_of(alloc, words)?;
-    let mut library = QuietLibrary::new(outside.library(alloc, 0)?);
-    let mut shelf = shelf(alloc, Failing::NONE)?;
-    let mut notes = notes(alloc, Failing::NONE)?;
-    let status = run(alloc, &words, &mut library, &mut shelf, &mut notes);
-    let mut text = status_text(alloc, &status)?;
-    let faults = format!(in alloc; "\n  faults {}", library.faults())?;
-    text.push_str(faults.as_str())?;
-    push_made(&mut text, alloc, &shelf, &notes)?;
-    Ok(text)
+    let library = QuietLibrary::new(outside.library(alloc, 0)?);
+    let ended = run_with(alloc, library, Failing::NONE, words)?;
+    quiet_ended_text(alloc, &ended)
 }
 
 /// What the words do where one call fails, or each in turn: the kind of the call and its number, or `every`

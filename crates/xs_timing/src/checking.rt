@@ -3,7 +3,7 @@
 use std::alloc::Global;
 use std::io;
 use std::rt::Clock;
-use std::time::Instant;
+use std::time::{Duration, Instant};
 use xs_check::check;
 use xs_pixel::{List, Op};
 use xs_scene::{Camera, Column, Exposure, Kind, Level, Name, Node, Peg, Ref, Scene, Sheet, Shown};
@@ -102,12 +102,18 @@ fn level(alloc: Global) -> io::Result<Level> {
     made(Level::new(Kind::Colour, List::of(drawings)))
 }
 
-fn scene_of(alloc: Global, sheets: Vec<Sheet>) -> io::Result<Scene> {
-    let camera = made(Camera::new(1920, 1080, None))?;
+/// The one level.
+fn levels(alloc: Global) -> io::Result<List<Level>> {
     let mut levels = Vec::new(alloc);
     levels.push(level(alloc)?)?;
+    Ok(List::of(levels))
+}
+
+fn scene_of(alloc: Global, sheets: Vec<Sheet>) -> io::Result<Scene> {
+    let levels = levels(alloc)?;
+    let camera = made(Camera::new(1920, 1080, None))?;
     let palettes = List::of(Vec::new(alloc));
-    made(Scene::new(2, camera, palettes, List::of(levels), List::of(sheets)))
+    made(Scene::new(2, camera, palettes, levels, List::of(sheets)))
 }
 
 /// The large sheet, and a chain of 16 nested sheets of 1024 cells each.
@@ -121,39 +127,62 @@ fn scene_at_limits(alloc: Global, skipped: u16) -> io::Result<Scene> {
     scene_of(alloc, sheets)
 }
 
-/// One column of so many cells that its rows come again.
-fn scene_with_overlaps(alloc: Global, cells: u32) -> io::Result<Scene> {
+/// A sheet of one column of so many cells that its rows come again.
+fn sheet_with_overlaps(alloc: Global, cells: u32) -> io::Result<Sheet> {
     let mut columns = Vec::new(alloc);
     columns.push(column_of_drawings(alloc, cells, 776)?)?;
+    sheet_of(alloc, columns)
+}
+
+/// A scene of such a sheet.
+fn scene_with_overlaps(alloc: Global, cells: u32) -> io::Result<Scene> {
     let mut sheets = Vec::new(alloc);
-    sheets.push(sheet_of(alloc, columns)?)?;
+    sheets.push(sheet_with_overlaps(alloc, cells)?)?;
     scene_of(alloc, sheets)
+}
+
+/// A sheet of two columns, of one cell each, that show two sheets.
+fn sheet_showing_two(alloc: Global, first: u32, second: u32) -> io::Result<Sheet> {
+    let mut columns = Vec::new(alloc);
+    columns.push(column_of_sheet(alloc, 1, first)?)?;
+    columns.push(column_of_sheet(alloc, 1, second)?)?;
+    sheet_of(alloc, columns)
+}
+
+/// So many sheets in a chain, and one that the last of them shows.
+fn chain_of_sheets(alloc: Global, chain: u32) -> io::Result<Vec<Sheet>> {
+    let mut sheets = Vec::new(alloc);
+    for shown in 1..=chain.saturating_add(1) {
+        sheets.push(sheet_showing(alloc, 1, shown)?)?;
+    }
+    Ok(sheets)
 }
 
 /// So many sheets in a chain from a sheet on a cycle, the last in the list, to two that show one another.
 fn scene_with_cycles(alloc: Global, chain: u32) -> io::Result<Scene> {
-    let last = chain.saturating_add(1);
-    let begins = chain.saturating_add(2);
-    let mut sheets = Vec::new(alloc);
-    for number in 0..last {
-        sheets.push(sheet_showing(alloc, 1, number + 1)?)?;
-    }
+    let mut sheets = chain_of_sheets(alloc, chain)?;
     sheets.push(sheet_showing(alloc, 1, chain)?)?;
-    let mut columns = Vec::new(alloc);
-    columns.push(column_of_sheet(alloc, 1, begins)?)?;
-    columns.push(column_of_sheet(alloc, 1, 0)?)?;
-    sheets.push(sheet_of(alloc, columns)?)?;
+    sheets.push(sheet_showing_two(alloc, chain.saturating_add(2), 0)?)?;
     scene_of(alloc, sheets)
+}
+
+/// Prints how long a check took, and what it answered.
+fn tell_time<R: Print>(rt: &R, part: &str, time: Duration, answer: &str) -> io::Result<()> {
+    let micros = time.as_micros();
+    println!(rt; "check {part} {micros} microseconds {answer}")
 }
 
 /// Prints how long `check` takes on a scene, and what it answers.
 fn time_check<R: Print + Clock>(rt: &R, alloc: Global, part: &str, scene: Scene) -> io::Result<()> {
     let start = Instant::now(rt)?;
-    let checked = check(alloc, scene);
-    let micros = start.elapsed(rt)?.as_micros();
-    let answer = if checked.is_ok() { "good" } else { "refused" };
-    drop(checked);
-    println!(rt; "check {part} {micros} microseconds {answer}")
+    match check(alloc, scene) {
+        Ok(good) => {
+            let time = start.elapsed(rt);
+            drop(good);
+            tell_time(rt, part, time?, "good")
+        }
+        Err(_fault) => tell_time(rt, part, start.elapsed(rt)?, "refused"),
+    }
 }
 
 /// Prints how long `check` takes on each of some scenes.

@@ -73,9 +73,14 @@ fn time_frame<R: Clock + Print>(
     println!(rt; "frame {} bytes {micros} microseconds", bytes.len())
 }
 
+/// Holds the drawings of the scene and prints how long its frame takes.
+fn time_scene<R: Clock + Print>(rt: &R, alloc: Global, scene: &GoodScene) -> io::Result<()> {
+    let drawings = held(alloc)?;
+    time_frame(rt, alloc, scene, &drawings)
+}
+
 /// Prints how long the frame of a row of four columns takes.
 pub fn time<R: Clock + Print>(rt: &R, alloc: Global) -> io::Result<()> {
     let scene = scene(alloc)?;
-    let drawings = held(alloc)?;
-    time_frame(rt, alloc, &scene, &drawings)
+    time_scene(rt, alloc, &scene)
 }

@@ -1,6 +1,6 @@
 //! The row kernels beside the plain rows, on whole tiles.
 
-ghost use Rattle.std.specs.Prelude.{◌≡◌, ◌%◌, ◌*◌, length};
+ghost use Rattle.std.specs.Prelude.{◌≡◌, ◌%◌, ◌*◌, length, vec_len, IfOk};
 ghost use Rattle.std.specs.Simd.Lanes.{Each1};
 ghost use Rattle.xs_pixel.specs.Channels.{IsPixel};
 ghost use Rattle.xs_pixel.specs.Rows.{pixels};
@@ -117,23 +117,82 @@ fn least_cm32<R: Clock>(
     Ok(least)
 }
 
+/// A tile of pixels under a palette of its own.
+fn random_tile(alloc: Global, random: &mut Random, kind: Kind) -> io::Result<Vec<u8>>
+    ensures long { IfOk result (λ v. vec_len v ≡ 4 * PIXELS) }
+    ensures valid { IfOk result (λ v. Each1 IsPixel (pixels v.items)) }
+{
+    let palette = tiles::palette(alloc, random, kind)?;
+    Ok(tiles::tile(alloc, random, &palette)?)
+}
+
+/// Prints the times of the operations and of filling, in one way.
+fn time_way<R: Clock + Print>(
+    rt: &R,
+    way: Way,
+    kind: Kind,
+    u: &[u8],
+    d: &[u8],
+    to: &mut [u8],
+) -> io::Result<()>
+    requires same { length d.now ≡ length u.now }
+    requires room { length to.old ≡ length u.now }
+    requires whole { length u.now % 4 ≡ 0 }
+    requires first { Each1 IsPixel (pixels u.now) }
+    requires second { Each1 IsPixel (pixels d.now) }
+{
+    for op in OPERATIONS {
+        let time = least(rt, Work::Operation(op), way, u, d, to)?;
+        println!(rt; "{op:?} {way:?} {kind:?} {time}")?;
+    }
+    let fill = least(rt, Work::Fill, way, u, d, to)?;
+    println!(rt; "Fill {way:?} {kind:?} {fill}")
+}
+
+/// Prints the times of the operations, of filling and of copying.
+fn time_rows<R: Clock + Print>(
+    rt: &R,
+    kind: Kind,
+    u: &[u8],
+    d: &[u8],
+    to: &mut [u8],
+) -> io::Result<()>
+    requires same { length d.now ≡ length u.now }
+    requires room { length to.old ≡ length u.now }
+    requires whole { length u.now % 4 ≡ 0 }
+    requires first { Each1 IsPixel (pixels u.now) }
+    requires second { Each1 IsPixel (pixels d.now) }
+{
+    time_way(rt, Way::Lanes, kind, u, d, to)?;
+    time_way(rt, Way::Plain, kind, u, d, to)?;
+    let copy = least(rt, Work::Copy, Way::Plain, u, d, to)?;
+    println!(rt; "Copy Plain {kind:?} {copy}")
+}
+
 fn time_operations<R: Clock + Print>(rt: &R, alloc: Global, kind: Kind) -> io::Result<()> {
     let mut random = Random::new(7);
-    let upper = tiles::palette(alloc, &mut random, kind)?;
-    let lower = tiles::palette(alloc, &mut random, Kind::Noise)?;
-    let u = tiles::tile(alloc, &mut random, &upper)?;
-    let d = tiles::tile(alloc, &mut random, &lower)?;
+    let u = random_tile(alloc, &mut random, kind)?;
+    let d = random_tile(alloc, &mut random, Kind::Noise)?;
     let mut to = vec![in alloc; 0u8; u.len()]?;
+    time_rows(rt, kind, &u, &d, &mut to)
+}
+
+/// Prints the times of the colours of words that come so many times.
+fn time_colours<R: Clock + Print>(
+    rt: &R,
+    times: u32,
+    row: &[u8],
+    palette: &Palette,
+    to: &mut [u8],
+) -> io::Result<()>
+    requires room { length to.old ≡ length row.now }
+    requires whole { length row.now % 4 ≡ 0 }
+{
     for way in [Way::Lanes, Way::Plain] {
-        for op in OPERATIONS {
-            let time = least(rt, Work::Operation(op), way, &u, &d, &mut to)?;
-            println!(rt; "{op:?} {way:?} {kind:?} {time}")?;
-        }
-        let fill = least(rt, Work::Fill, way, &u, &d, &mut to)?;
-        println!(rt; "Fill {way:?} {kind:?} {fill}")?;
+        let time = least_cm32(rt, way, row, palette, to)?;
+        println!(rt; "Cm32 {way:?} Runs{times} {time}")?;
     }
-    let copy = least(rt, Work::Copy, Way::Plain, &u, &d, &mut to)?;
-    println!(rt; "Copy Plain {kind:?} {copy}")
+    Ok(())
 }
 
 fn time_words<R: Clock + Print>(rt: &R, alloc: Global, times: u32) -> io::Result<()> {
@@ -141,11 +200,7 @@ fn time_words<R: Clock + Print>(rt: &R, alloc: Global, times: u32) -> io::Result
     let palette = tiles::palette(alloc, &mut random, Kind::Noise)?;
     let row = tiles::words(alloc, &mut random, times)?;
     let mut to = vec![in alloc; 0u8; row.len()]?;
-    for way in [Way::Lanes, Way::Plain] {
-        let time = least_cm32(rt, way, &row, &palette, &mut to)?;
-        println!(rt; "Cm32 {way:?} Runs{times} {time}")?;
-    }
-    Ok(())
+    time_colours(rt, times, &row, &palette, &mut to)
 }
 
 /// Prints a line for each kernel: its name, its way, its input, and the time of a pixel in
@@ -160,14 +215,14 @@ pub fn time<R: Clock + Print>(rt: &R, alloc: Global) -> io::Result<()> {
     Ok(())
 }
 
-fn write_tiles<R: Print>(rt: &R, u: &[u8], d: &[u8], to: &mut [u8]) -> io::Result<()>
+/// Writes two tiles and what four operations make of them.
+fn write_tiles<W: Write>(out: &mut W, u: &[u8], d: &[u8], to: &mut [u8]) -> io::Result<()>
     requires same { length d.now ≡ length u.now }
     requires room { length to.old ≡ length u.now }
     requires whole { length u.now % 4 ≡ 0 }
     requires first { Each1 IsPixel (pixels u.now) }
     requires second { Each1 IsPixel (pixels d.now) }
 {
-    let mut out = io::writer(rt);
     out.write_all(u)?;
     out.write_all(d)?;
     for op in [Op::Over, Op::MatteIn, Op::MatteOut, Op::Add] {
@@ -177,16 +232,26 @@ fn write_tiles<R: Print>(rt: &R, u: &[u8], d: &[u8], to: &mut [u8]) -> io::Resul
     Ok(())
 }
 
+/// Makes two tiles, and writes them and what the operations make of them.
+fn write_two<R: Print>(
+    rt: &R,
+    alloc: Global,
+    random: &mut Random,
+    palette: &Palette,
+) -> io::Result<()> {
+    let u = tiles::tile(alloc, random, palette)?;
+    let d = tiles::tile(alloc, random, palette)?;
+    let mut to = vec![in alloc; 0u8; u.len()]?;
+    write_tiles(&mut io::writer(rt), &u, &d, &mut to)
+}
+
 /// Writes to standard output, tile after tile, an upper and a lower tile and the results of over, in,
 /// out and add.
 pub fn write_bytes<R: Print>(rt: &R, alloc: Global) -> io::Result<()> {
     let mut random = Random::new(3);
     let palette = tiles::palette(alloc, &mut random, Kind::Noise)?;
     for _ in 0..COMPARED {
-        let u = tiles::tile(alloc, &mut random, &palette)?;
-        let d = tiles::tile(alloc, &mut random, &palette)?;
-        let mut to = vec![in alloc; 0u8; u.len()]?;
-        write_tiles(rt, &u, &d, &mut to)?;
+        write_two(rt, alloc, &mut random, &palette)?;
     }
     Ok(())
 }

@@ -1,13 +1,5 @@
-//! Times parts of the renderer on input that it makes in memory. The first word names the part; without
-//! words one line says so.
-//!
-//! - `kernels`: the row kernels beside the plain rows, in thousandths of a nanosecond a pixel
-//! - `kernel-bytes`: not a time, but rows and the results of four kernels, for a comparison with others
-//! - `frame`: a frame of 1920 by 1080 of four columns, by the plain evaluator
-//! - `check`: checking scenes at the limits, and ones with faults
-//! - `needs`: the drawings of a row where nodes and nested sheets are shared
-//! - `decode MIB`, `decode-indented MIB`, `decode-line MIB`, `encode MIB`: scene texts of so many MiB, read
-//!   without a blank, indented or on one line, and written
+//! Times parts of the renderer on input that it makes in memory. The first word names the part. Without
+//! words, or where they name no part, the parts are listed and the status is 2.
 #![tactic(auto)]
 
 mod checking;
@@ -18,40 +10,67 @@ mod script;
 mod sharing;
 mod tiles;
 
+use std::process::ExitCode;
 use std::rt::Clock;
 use std::{env, io};
 
-/// Times the reading or the writing of a scene text of so many MiB.
-fn time_text<R: Print + Clock + AllocGlobal>(
-    rt: &R,
-    part: &str,
-    size: Option<String>,
-) -> io::Result<()> {
-    let Some(Ok(size)) = size.map(|word| word.as_str().parse::<u16>()) else {
-        return println!(rt; "xs_timing: {part} wants a number of MiB");
-    };
+/// The parts.
+const PARTS: &str = "\
+xs_timing kernels: the row kernels beside the plain rows, in thousandths of a nanosecond a pixel
+xs_timing kernel-bytes: not a time, but rows and the results of four kernels, for a comparison with others
+xs_timing frame: a frame of 1920 by 1080 of four columns, by the plain evaluator
+xs_timing check: checking scenes at the limits, and ones with faults
+xs_timing needs: the drawings of a row where nodes and nested sheets are shared
+xs_timing decode MIB: reading a scene text of so many MiB without a blank
+xs_timing decode-indented MIB: reading one that is indented
+xs_timing decode-line MIB: reading one on one line
+xs_timing encode MIB: writing a scene text of so many MiB";
+
+/// Times the reading or the writing of a scene text of so many MiB; false where no part has this name.
+fn time_text<R: Print + Clock + AllocGlobal>(rt: &R, part: &str, size: u16) -> io::Result<bool> {
     match part {
-        "decode" => scene_text::time_decode(rt, rt.alloc(), size),
-        "decode-indented" => scene_text::time_indented(rt, rt.alloc(), size),
-        "decode-line" => scene_text::time_one_line(rt, rt.alloc(), size),
-        _ => scene_text::time_encode(rt, rt.alloc(), size),
+        "decode" => scene_text::time_decode(rt, rt.alloc(), size)?,
+        "decode-indented" => scene_text::time_indented(rt, rt.alloc(), size)?,
+        "decode-line" => scene_text::time_one_line(rt, rt.alloc(), size)?,
+        "encode" => scene_text::time_encode(rt, rt.alloc(), size)?,
+        _ => return Ok(false),
+    }
+    Ok(true)
+}
+
+/// Times a part; false where no part has this name.
+fn time_part<R: Print + Clock + AllocGlobal>(rt: &R, part: &str) -> io::Result<bool> {
+    match part {
+        "kernels" => kernels::time(rt, rt.alloc())?,
+        "kernel-bytes" => kernels::write_bytes(rt, rt.alloc())?,
+        "frame" => frame::time(rt, rt.alloc())?,
+        "check" => checking::time(rt, rt.alloc())?,
+        "needs" => sharing::time_needs(rt, rt.alloc())?,
+        _ => return Ok(false),
+    }
+    Ok(true)
+}
+
+/// Times what the words name; false where they name no part.
+fn time_words<R: Print + Clock + AllocGlobal>(rt: &R, words: &[String]) -> io::Result<bool> {
+    match words {
+        [part] => time_part(rt, part.as_str()),
+        [part, size] => match size.as_str().parse::<u16>() {
+            Ok(size) => time_text(rt, part.as_str(), size),
+            Err(_) => Ok(false),
+        },
+        _ => Ok(false),
     }
 }
 
-fn main(rt: HostRuntime) -> io::Result<()> {
-    let mut words = env::args(&rt)?;
-    match words.nth(1) {
-        None => println!(rt; "xs_timing: name a part to time"),
-        Some(part) => match part.as_str() {
-            "kernels" => kernels::time(&rt, rt.alloc()),
-            "frame" => frame::time(&rt, rt.alloc()),
-            "kernel-bytes" => kernels::write_bytes(&rt, rt.alloc()),
-            "check" => checking::time(&rt, rt.alloc()),
-            "needs" => sharing::time_needs(&rt, rt.alloc()),
-            "decode" | "decode-indented" | "decode-line" | "encode" => {
-                time_text(&rt, part.as_str(), words.next())
-            }
-            other => println!(rt; "xs_timing: there is no part {other}"),
-        },
+fn main(rt: HostRuntime) -> io::Result<ExitCode> {
+    let mut words = Vec::new(rt.alloc());
+    for word in env::args(&rt)?.skip(1) {
+        words.push(word)?;
     }
+    if time_words(&rt, words.as_slice())? {
+        return Ok(ExitCode::SUCCESS);
+    }
+    println!(rt; "{PARTS}")?;
+    Ok(ExitCode::from(2))
 }

@@ -47,8 +47,9 @@ fn time_reading(
 ) -> io::Result<()> {
     let start = Instant::now(rt)?;
     let scene = scene_of(alloc, text)?;
-    let micros = start.elapsed(rt)?.as_micros();
+    let elapsed = start.elapsed(rt);
     drop(scene);
+    let micros = elapsed?.as_micros();
     println!(rt; "{part} {} bytes {micros} microseconds", text.len())
 }
 
@@ -70,14 +71,30 @@ pub fn time_one_line(rt: &(impl Print + Clock), alloc: Global, mib: u16) -> io::
     time_reading(rt, alloc, "decode-line", text.as_str())
 }
 
+/// How many bytes the text of a scene has.
+fn written_size(alloc: Global, scene: &Scene) -> io::Result<usize> {
+    match encode(alloc, scene) {
+        Ok(bytes) => Ok(bytes.len()),
+        Err(_) => Err(io::Error::from(io::ErrorKind::OutOfMemory)),
+    }
+}
+
+/// Prints how long `encode` takes on a scene.
+fn time_writing(rt: &(impl Print + Clock), alloc: Global, scene: &Scene) -> io::Result<()> {
+    let start = Instant::now(rt)?;
+    let size = written_size(alloc, scene)?;
+    let micros = start.elapsed(rt)?.as_micros();
+    println!(rt; "encode {size} bytes {micros} microseconds")
+}
+
+/// The scene of bare cells of so many MiB.
+fn bare_scene(alloc: Global, mib: u16) -> io::Result<Scene> {
+    let text = bare_text(alloc, size_of(mib))?;
+    scene_of(alloc, text.as_str())
+}
+
 /// Prints how long `encode` takes on the scene of a text of so many MiB.
 pub fn time_encode(rt: &(impl Print + Clock), alloc: Global, mib: u16) -> io::Result<()> {
-    let text = bare_text(alloc, size_of(mib))?;
-    let scene = scene_of(alloc, text.as_str())?;
-    let start = Instant::now(rt)?;
-    let Ok(bytes) = encode(alloc, &scene) else {
-        return Err(io::Error::from(io::ErrorKind::OutOfMemory));
-    };
-    let micros = start.elapsed(rt)?.as_micros();
-    println!(rt; "encode {} bytes {micros} microseconds", bytes.len())
+    let scene = bare_scene(alloc, mib)?;
+    time_writing(rt, alloc, &scene)
 }

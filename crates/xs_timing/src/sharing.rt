@@ -27,23 +27,33 @@ fn add_additions(alloc: Global, text: &mut String) -> Result<(), AllocError> {
     text.push(']')
 }
 
+/// A sheet of additions whose column shows the sheet with a number.
+fn add_sheet_of_additions(alloc: Global, text: &mut String, shown: u32) -> Result<(), AllocError> {
+    let cell = format!(in alloc;
+        "{{\"columns\":[{{\"cells\":[{{\"from\":1,\"to\":9,\"sheet\":{shown},\"start\":1}}]}}],"
+    )?;
+    text.push_str(cell.as_str())?;
+    add_additions(alloc, text)?;
+    text.push_str("},")
+}
+
 /// A scene with 16 nested sheets of 256 additions.
 fn additions(alloc: Global) -> Result<String, AllocError> {
     let mut text = String::from_str(alloc, HEAD)?;
     for shown in 1..16u32 {
-        let cell = format!(in alloc;
-            "{{\"columns\":[{{\"cells\":[{{\"from\":1,\"to\":9,\"sheet\":{shown},\"start\":1}}]}}],"
-        )?;
-        text.push_str(cell.as_str())?;
-        add_additions(alloc, &mut text)?;
-        text.push_str("},")?;
+        add_sheet_of_additions(alloc, &mut text, shown)?;
     }
+    end_additions(alloc, &mut text)?;
+    Ok(text)
+}
+
+/// The innermost sheet of additions, and the end of the scene.
+fn end_additions(alloc: Global, text: &mut String) -> Result<(), AllocError> {
     text.push_str(r#"{"columns":["#)?;
     text.push_str(CELL)?;
     text.push_str("],")?;
-    add_additions(alloc, &mut text)?;
-    text.push_str("}]}")?;
-    Ok(text)
+    add_additions(alloc, text)?;
+    text.push_str("}]}")
 }
 
 /// A sheet of eight columns, each of which shows the sheet with a number.
@@ -83,24 +93,45 @@ fn good_scene(alloc: Global, text: &str) -> io::Result<GoodScene> {
     }
 }
 
-/// Prints how long it takes to tell the drawings of the first row.
+/// How many drawings the first row of a scene needs.
+fn count_needed(alloc: Global, good: &GoodScene) -> io::Result<usize> {
+    match row_drawings(alloc, good, 1) {
+        Ok(drawings) => Ok(drawings.len()),
+        Err(_) => Err(io::Error::from(io::ErrorKind::OutOfMemory)),
+    }
+}
+
+/// Prints how long it takes to tell the drawings of the first row of a scene.
+fn time_row(
+    rt: &(impl Print + Clock),
+    alloc: Global,
+    part: &str,
+    good: &GoodScene,
+) -> io::Result<()> {
+    let start = Instant::now(rt)?;
+    let needed = count_needed(alloc, good)?;
+    let micros = start.elapsed(rt)?.as_micros();
+    println!(rt; "needs {part}: {needed} drawings in {micros} microseconds")
+}
+
+/// The same for the scene that a text says.
 fn time_one(rt: &(impl Print + Clock), alloc: Global, part: &str, text: &str) -> io::Result<()> {
     let good = good_scene(alloc, text)?;
-    let start = Instant::now(rt)?;
-    let Ok(drawings) = row_drawings(alloc, &good, 1) else {
-        return Err(io::Error::from(io::ErrorKind::OutOfMemory));
-    };
-    let micros = start.elapsed(rt)?.as_micros();
-    println!(rt;
-        "needs {part}: {} drawings in {micros} microseconds",
-        drawings.len()
-    )
+    time_row(rt, alloc, part, &good)
+}
+
+fn time_additions(rt: &(impl Print + Clock), alloc: Global) -> io::Result<()> {
+    let text = additions(alloc)?;
+    time_one(rt, alloc, "additions", text.as_str())
+}
+
+fn time_nested(rt: &(impl Print + Clock), alloc: Global) -> io::Result<()> {
+    let text = nested(alloc)?;
+    time_one(rt, alloc, "nested sheets", text.as_str())
 }
 
 /// Prints how long it takes where additions share their inputs, and where nested sheets do.
 pub fn time_needs(rt: &(impl Print + Clock), alloc: Global) -> io::Result<()> {
-    let text = additions(alloc)?;
-    time_one(rt, alloc, "additions", text.as_str())?;
-    let text = nested(alloc)?;
-    time_one(rt, alloc, "nested sheets", text.as_str())
+    time_additions(rt, alloc)?;
+    time_nested(rt, alloc)
 }

@@ -17,7 +17,7 @@ use Rattle.xs_top.specs.Levels.{file_of, kind_of, raw_kind_of, needed, pictures_
 use Rattle.xs_top.specs.Rows.{rows_of, sections_of}
 use Rattle.xs_top.specs.Finished.{Says, IsAccepted, AreAccepted}
 use Rattle.xs_top.specs.Outcome.{found, asking, checked, accepted, loading_drawing, loading, placing_rows, rendering_sections, closing, rendering_scene, rendering}
-use Rattle.xs_top.proofs.Listings.{listed-append, fresh_known, fresh_new, or_true}
+use Rattle.xs_top.proofs.Listings.{listed-append, fresh_listed}
 use Rattle.xs_top.proofs.Drawn.{loading_none, loading_first}
 use Rattle.xs_top.proofs.Sections.{section_is, sections_first}
 use Rattle.xs_top.proofs.Finishing.{scene_through, placing_through, joined, joined_sections, needed-append}
@@ -62,40 +62,15 @@ either_listed : (a b : Bool) → (a || b) ≡ true → (a ≡ true) ⊎ (b ≡ t
 either_listed true b e = inl refl
 either_listed false b e = inr e
 
-known_before : (known : List ℕ) (d e : ℕ) → (d == e) ≡ false → is_listed (known ++ d ∷ []) e ≡ true → is_listed known e ≡ true
-known_before known d e other listed =
-    elim (either_listed (is_listed known e) (is_listed (d ∷ []) e) (sym (listed-append known (d ∷ []) e) ∙ listed)) [
-      | inl there ↦ there
-      | inr here ↦ absurd (let none : is_listed (d ∷ []) e ≡ false = ap (λ t. t || false) other in cc)
-    ]
-
--- a number of a list is known or is one of the new ones
-known_or_fresh_by : (known ds : List ℕ) (d e : ℕ) (t u : Bool) → is_listed known d ≡ t → (d == e) ≡ u → ((known : List ℕ) → is_listed ds e ≡ true → (is_listed known e ≡ true) ⊎ (is_listed (fresh known ds) e ≡ true)) → (u || is_listed ds e) ≡ true → (is_listed known e ≡ true) ⊎ (is_listed (fresh known (d ∷ ds)) e ≡ true)
-known_or_fresh_by known ds d e true true known_d same rest listed =
-    let here : d ≡ e = grind (arith, nat_tests) in inl (ap (is_listed known) (sym here) ∙ known_d)
-known_or_fresh_by known ds d e true false known_d other rest listed =
-    elim (rest known listed) [ inl k ↦ inl k | inr f ↦ inr (ap (λ l. is_listed l e) (fresh_known known ds d known_d) ∙ f) ]
-known_or_fresh_by known ds d e false true new same rest listed =
-    inr (ap (λ l. is_listed l e) (fresh_new known ds d new) ∙ ap (λ t. t || is_listed (fresh (known ++ d ∷ []) ds) e) same)
-known_or_fresh_by known ds d e false false new other rest listed =
-    elim (rest (known ++ d ∷ []) listed) [
-      | inl k ↦ inl (known_before known d e other k)
-      | inr f ↦ inr (ap (λ l. is_listed l e) (fresh_new known ds d new) ∙ (ap (λ t. (d == e) || t) f ∙ or_true _))
-    ]
-
-known_or_fresh : (e : ℕ) (ds known : List ℕ) → is_listed ds e ≡ true → (is_listed known e ≡ true) ⊎ (is_listed (fresh known ds) e ≡ true)
-known_or_fresh e [] known listed = absurd cc
-known_or_fresh e (d ∷ ds) known listed = known_or_fresh_by known ds d e (is_listed known d) (d == e) refl refl (known_or_fresh e ds) listed
-
 -- ---- rows and sections
 
 rows_accepted : (files : Files) (s : SceneRecord) (earlier rows : List ℕ) → AreAccepted files s earlier → ((e : ℕ) → is_listed (fresh (needed s earlier) (needed s rows)) e ≡ true → IsAccepted files s e) → AreAccepted files s (earlier ++ rows)
 rows_accepted files s earlier rows before new d listed =
-    elim (either_listed (is_listed (needed s earlier) d) (is_listed (needed s rows) d) (sym (listed-append (needed s earlier) (needed s rows) d) ∙ (ap (λ l. is_listed l d) (sym (needed-append s earlier rows)) ∙ listed))) [
-      | inl there ↦ before d there
-      | inr there ↦
-          elim (known_or_fresh d (needed s rows) (needed s earlier) there) [ inl known ↦ before d known | inr fresh ↦ new d fresh ]
-    ]
+    let first = needed s earlier in
+    let either : (is_listed first d || is_listed (fresh first (needed s rows)) d) ≡ true =
+    sym (listed-append first (fresh first (needed s rows)) d)
+    ∙ (fresh_listed first (needed s rows) d ∙ (ap (λ l. is_listed l d) (sym (needed-append s earlier rows)) ∙ listed)) in
+    elim (either_listed _ _ either) [ inl there ↦ before d there | inr there ↦ new d there ]
 
 placing_status : (files : Files) (s : SceneRecord) (base rows : List ℕ) (next : Outcome) → (placing_rows s (pictures_of files s) base rows next).status ≡ next.status
 placing_status files s base rows next = ap (λ o. o.status) (placing_through s (pictures_of files s) base rows next)

@@ -1,12 +1,12 @@
 -- What the words and the commands leave to do.
-use Rattle.std.proofs.Common.{◌≡◌, ℕ, true, false, List, [], length, nat_le, if◌then◌else◌, Option, None, Some, Ok, Err, refl}
+use Rattle.std.proofs.Common.{ap, ◌≡◌, ℕ, true, false, List, [], length, nat_le, if◌then◌else◌, Option, None, Some, Ok, Err, refl}
 use Rattle.xs_words.specs.declared.command.Command.{Command}
 use Rattle.xs_words.specs.declared.fault.WordsFault.{WordsFault}
 use Rattle.xs_words.specs.declared.fault.WordsFault.TheVariants as words_fault
 use Rattle.xs_words.specs.Grammar.{reading_of, Reads}
 use Rattle.xs_top.specs.declared.status.Status.{Status}
-use Rattle.xs_top.specs.declared.status.Status.TheVariants as answers
-use Rattle.xs_top.specs.Trace.{Seen, Outcome, puts, ended}
+use Rattle.xs_top.specs.Trace.{Contents, Outcome, puts, ended}
+use Rattle.xs_top.specs.Causes.{is_of_library, is_of_output}
 use Rattle.xs_top.specs.Runs.{Stopped}
 use Rattle.xs_top.specs.Texts.{IsStatusOf}
 use Rattle.xs_top.specs.Told.{Files, Verdict}
@@ -22,18 +22,14 @@ pub command_obeyed : (files : Files) (verdict : Verdict) (words : List (List ℕ
 unfolding outcome
 command_obeyed files verdict words command e = rw e refl
 
-pub words_stopped : (files : Files) (verdict : Verdict) (words : List (List ℕ)) (seen : Seen) (fault : WordsFault) (status : Status) → Reads (Err fault) (reading_of words) → IsStatusOf fault status → Stopped (outcome files verdict words) seen seen status
+pub words_stopped : (files : Files) (verdict : Verdict) (words : List (List ℕ)) (seen : Contents) (fault : WordsFault) (status : Status) → Reads (Err fault) (reading_of words) → IsStatusOf fault status → Stopped (outcome files verdict words) seen seen status
 unfolding outcome
 words_stopped files verdict words seen (words_fault.Usage usage) status e is = rw (is, e) (did_nothing _ _)
 words_stopped files verdict words seen words_fault.Memory status e is = rw is (_, did_nothing _ _)
 
-pub words_read : (fault : WordsFault) (status : Status) → IsStatusOf fault status → status ≡ answers.ReadFault → ⊥
-words_read (words_fault.Usage usage) status is e = cc
-words_read words_fault.Memory status is e = cc
-
-pub words_write : (fault : WordsFault) (status : Status) → IsStatusOf fault status → status ≡ answers.WriteFault → ⊥
-words_write (words_fault.Usage usage) status is e = cc
-words_write words_fault.Memory status is e = cc
+pub words_inside : (fault : WordsFault) (status : Status) → IsStatusOf fault status → (is_of_library status ≡ false) × (is_of_output status ≡ false)
+words_inside (words_fault.Usage usage) status is = (ap is_of_library is, ap is_of_output is)
+words_inside words_fault.Memory status is = (ap is_of_library is, ap is_of_output is)
 
 -- ---- no frame is put where a scene is shown
 

@@ -1,5 +1,6 @@
 -- Files of drawings, the pictures that they show, and what is held of them.
 use Rattle.std.proofs.Common.{◌≡◌, ℕ, zero, suc, ◌+◌, ◌-◌, ◌<◌, ◌≤◌, take, drop, append_assoc, ◌||◌, ◌==◌, Bool, true, false, List, [], ◌∷◌, ◌++◌, length, get_or, map, nat_lt, slice_get, slice_set, slice_index_or, Option, Some, None, is_some, IsNone, ◌↔◌, option_map, option_and_then, Fits, w8, refl, sym, ap, ◌∙◌, arith}
+use Rattle.std.proofs.Math.Bool.{or-true, or-false}
 use Rattle.std.proofs.lemmas.Bool.Decides.{nat_tests}
 use Rattle.std.proofs.lemmas.Option.{get_or_from_slice_get}
 use Rattle.std.proofs.Math.ListN.{length-set}
@@ -31,7 +32,7 @@ use Rattle.std.specs.List.{range_with_len}
 use Rattle.xs_meaning.specs.Expressions.{drawings_of, root_of}
 use Rattle.xs_top.specs.Levels.{needed}
 use Rattle.xs_top.proofs.RowRanges.{needed_next, needed_more, range_over}
-use Rattle.xs_top.proofs.Listings.{listed-append, or_true, or_false, fresh_known, fresh_new, fresh_none, fresh-append, once_same}
+use Rattle.xs_top.proofs.Listings.{listed-append, fresh_known, fresh_new, fresh_none, fresh-append, once_same}
 
 -- ---- the file and the kind of a drawing
 
@@ -108,15 +109,15 @@ module _ (x : Raw × Option ℕ) where
   held_at : (h : Held) (d e : ℕ) (t : Bool) → (d == e) ≡ t → d < length h.slots → is_some (slot_in (held (slice_set h.slots d (Some x)) h.palettes) e) ≡ (is_some (slot_in h e) || t)
   held_at h d e true same within =
       let here : d ≡ e = grind (arith, nat_tests) in
-      rw (← here) (ap (λ o. is_some (option_and_then (λ slot. slot) o)) (slot_here h.slots d within) ∙ sym (or_true _))
+      rw (← here) (ap (λ o. is_some (option_and_then (λ slot. slot) o)) (slot_here h.slots d within) ∙ sym (or-true _))
   held_at h d e false other within =
       let apart : d ≡ e → ⊥ = grind (arith, nat_tests) in
-      ap (λ o. is_some (option_and_then (λ slot. slot) o)) (slot_there h.slots d e apart) ∙ sym (or_false _)
+      ap (λ o. is_some (option_and_then (λ slot. slot) o)) (slot_there h.slots d e apart) ∙ sym (or-false _)
 
   pub holds_one : (h : Held) (known : List ℕ) (d : ℕ) → d < length h.slots → Holds h known → Holds (held (slice_set h.slots d (Some x)) h.palettes) (known ++ d ∷ [])
   holds_one h known d within holds e =
       held_at h d e (d == e) refl within
-      ∙ (ap (λ t. t || (d == e)) (holds e) ∙ (ap (λ t. is_listed known e || t) (sym (or_false (d == e))) ∙ sym (listed-append known (d ∷ []) e)))
+      ∙ (ap (λ t. t || (d == e)) (holds e) ∙ (ap (λ t. is_listed known e || t) (sym (or-false (d == e))) ∙ sym (listed-append known (d ∷ []) e)))
 
   pub room_kept : (s : SceneRecord) (h : Held) (d : ℕ) → HasRoom s h → HasRoom s (held (slice_set h.slots d (Some x)) h.palettes)
   room_kept s h d room = record { slots = length-set h.slots d (Some x) ∙ room.slots; palettes = room.palettes; shown = room.shown }

@@ -1,6 +1,7 @@
 -- What a render does that meets no fault.
-use Rattle.std.proofs.Common.{◌≡◌, ℕ, zero, suc, ◌+◌, ◌-◌, ◌*◌, ◌≤◌, min, Bool, true, false, ◌||◌, ◌==◌, List, [], ◌∷◌, ◌++◌, map, flat_map, None, refl, sym, ap, ◌∙◌, arith}
+use Rattle.std.proofs.Common.{◌≡◌, ℕ, zero, suc, ◌+◌, ◌-◌, ◌*◌, ◌≤◌, min, true, ◌||◌, ◌==◌, List, [], ◌∷◌, ◌++◌, map, flat_map, None, refl, sym, ap, ◌∙◌, append_assoc, arith}
 use Rattle.std.specs.List.{range_with_len}
+use Rattle.std.proofs.Math.Bool.{or-true}
 use Rattle.std.proofs.lemmas.Bool.Decides.{nat_tests}
 use Rattle.std.proofs.lemmas.Grind.{flat_map-append}
 use Rattle.std.proofs.lemmas.List.{map-append, append-nil}
@@ -21,7 +22,7 @@ use Rattle.xs_top.specs.Outcome.{asking, placing, noting, decoded, checked, load
 use Rattle.xs_top.proofs.Parts.{asks-append, puts-append, lines-append, after-after}
 use Rattle.xs_top.proofs.Answered.{found_there}
 use Rattle.xs_top.proofs.Verdicts.{scene_asked}
-use Rattle.xs_top.proofs.Listings.{listed-append, fresh_known, fresh_new, fresh_none, fresh-append, or_true}
+use Rattle.xs_top.proofs.Listings.{listed-append, fresh_listed, fresh_none, fresh-append}
 use Rattle.xs_top.proofs.RowRanges.{range-append}
 use Rattle.xs_top.proofs.Drawn.{drawing_asked, loading_none, loading_first}
 use Rattle.xs_top.proofs.Placed.{placing_none, placing_first}
@@ -62,7 +63,7 @@ loading_through files s (d ∷ ds) next ok =
     let here : is_listed (d ∷ ds) d ≡ true = grind (arith, nat_tests) in
     loading_first files s d ds next
     ∙ (drawing_through files s d (loading files s ds next) (ok d here)
-    ∙ ap (after (asked_of s d ∷ [])) (loading_through files s ds next (λ e listed. ok e (ap (λ t. (d == e) || t) listed ∙ or_true _))))
+    ∙ ap (after (asked_of s d ∷ [])) (loading_through files s ds next (λ e listed. ok e (ap (λ t. (d == e) || t) listed ∙ or-true _))))
 
 pub placed_of : SceneRecord → Pictures → List ℕ → ℕ → Event
 placed_of s pictures base row = Place (frame_at s pictures base row)
@@ -105,20 +106,6 @@ module _ (s : SceneRecord) (pictures : Pictures) (base : List ℕ) where
 
 -- ---- sections
 
-or_right : (a b c : Bool) → (c || a) ≡ true → (a ≡ true → b ≡ true) → (c || b) ≡ true
-or_right a b true h within = refl
-or_right a b false h within = within h
-
-fresh_listed_by : (known ds : List ℕ) (d e : ℕ) (t : Bool) → is_listed known d ≡ t → ((known : List ℕ) → is_listed (fresh known ds) e ≡ true → is_listed ds e ≡ true) → is_listed (fresh known (d ∷ ds)) e ≡ true → is_listed (d ∷ ds) e ≡ true
-fresh_listed_by known ds d e true listed rest h =
-    ap (λ t. (d == e) || t) (rest known (ap (λ l. is_listed l e) (sym (fresh_known known ds d listed)) ∙ h)) ∙ or_true _
-fresh_listed_by known ds d e false listed rest h =
-    or_right _ _ (d == e) (ap (λ l. is_listed l e) (sym (fresh_new known ds d listed)) ∙ h) (rest (known ++ d ∷ []))
-
-fresh_listed : (e : ℕ) (ds known : List ℕ) → is_listed (fresh known ds) e ≡ true → is_listed ds e ≡ true
-fresh_listed e [] known h = ap (λ l. is_listed l e) (sym (fresh_none known)) ∙ h
-fresh_listed e (d ∷ ds) known h = fresh_listed_by known ds d e (is_listed known d) refl (fresh_listed e ds) h
-
 section_events : SceneRecord → Pictures → List ℕ → (earlier rows : List ℕ) → List Event
 section_events s pictures base earlier rows =
     map (asked_of s) (fresh (needed s earlier) (needed s rows)) ++ map (placed_of s pictures base) rows
@@ -138,25 +125,29 @@ accepted_left : (files : Files) (s : SceneRecord) (rows more : List ℕ) → Are
 accepted_left files s rows more ok d listed =
     ok d (ap (λ l. is_listed l d) (needed-append s rows more) ∙ (listed-append (needed s rows) (needed s more) d ∙ ap (λ t. t || is_listed (needed s more) d) listed))
 
-accepted_right : (files : Files) (s : SceneRecord) (rows more : List ℕ) → AreAccepted files s (rows ++ more) → AreAccepted files s more
-accepted_right files s rows more ok d listed =
-    ok d (ap (λ l. is_listed l d) (needed-append s rows more) ∙ (listed-append (needed s rows) (needed s more) d ∙ (ap (λ t. is_listed (needed s rows) d || t) listed ∙ or_true _)))
+-- what a section loads is needed
+needed_fresh : (s : SceneRecord) (earlier rows : List ℕ) (d : ℕ) → is_listed (fresh (needed s earlier) (needed s rows)) d ≡ true → is_listed (needed s (earlier ++ rows)) d ≡ true
+needed_fresh s earlier rows d listed =
+    let first = needed s earlier in
+    ap (λ l. is_listed l d) (needed-append s earlier rows)
+    ∙ (sym (fresh_listed first (needed s rows) d) ∙ (listed-append first (fresh first (needed s rows)) d ∙ (ap (λ t. is_listed first d || t) listed ∙ or-true _)))
 
-section_through : (files : Files) (s : SceneRecord) (base earlier rows : List ℕ) (next : Outcome) → AreAccepted files s rows → rendering_section files s base earlier rows next ≡ after (section_events s (pictures_of files s) base earlier rows) next
+section_through : (files : Files) (s : SceneRecord) (base earlier rows : List ℕ) (next : Outcome) → AreAccepted files s (earlier ++ rows) → rendering_section files s base earlier rows next ≡ after (section_events s (pictures_of files s) base earlier rows) next
 unfolding section_events
 section_through files s base earlier rows next ok =
     section_is files s base earlier rows next
-    ∙ (loading_through files s (fresh (needed s earlier) (needed s rows)) _ (λ d listed. ok d (fresh_listed d (needed s rows) (needed s earlier) listed))
+    ∙ (loading_through files s (fresh (needed s earlier) (needed s rows)) _ (λ d listed. ok d (needed_fresh s earlier rows d listed))
     ∙ (ap (after (map (asked_of s) (fresh (needed s earlier) (needed s rows)))) (placing_through s (pictures_of files s) base rows next)
     ∙ after-after (map (asked_of s) (fresh (needed s earlier) (needed s rows))) (map (placed_of s (pictures_of files s) base) rows) next))
 
-sections_through : (files : Files) (s : SceneRecord) (base : List ℕ) (sections : List (List ℕ)) (earlier : List ℕ) (next : Outcome) → AreAccepted files s (joined sections) → rendering_sections files s base earlier sections next ≡ after (sections_events s (pictures_of files s) base earlier sections) next
+sections_through : (files : Files) (s : SceneRecord) (base : List ℕ) (sections : List (List ℕ)) (earlier : List ℕ) (next : Outcome) → AreAccepted files s (earlier ++ joined sections) → rendering_sections files s base earlier sections next ≡ after (sections_events s (pictures_of files s) base earlier sections) next
 unfolding sections_events
 sections_through files s base [] earlier next ok = sections_none files s base earlier next
 sections_through files s base (rows ∷ sections) earlier next ok =
+    let all : AreAccepted files s ((earlier ++ rows) ++ joined sections) = rw (append_assoc earlier rows (joined sections)) ok in
     sections_first files s base earlier rows sections next
-    ∙ (section_through files s base earlier rows _ (accepted_left files s rows (joined sections) ok)
-    ∙ (ap (after (section_events s (pictures_of files s) base earlier rows)) (sections_through files s base sections (earlier ++ rows) next (accepted_right files s rows (joined sections) ok))
+    ∙ (section_through files s base earlier rows _ (accepted_left files s (earlier ++ rows) (joined sections) all)
+    ∙ (ap (after (section_events s (pictures_of files s) base earlier rows)) (sections_through files s base sections (earlier ++ rows) next all)
     ∙ after-after (section_events s (pictures_of files s) base earlier rows) (sections_events s (pictures_of files s) base (earlier ++ rows) sections) next))
 
 module _ (s : SceneRecord) (pictures : Pictures) (base : List ℕ) where

@@ -1,5 +1,5 @@
 -- The files that a render puts on the shelf are frames of its rows from the first on.
-use Rattle.std.proofs.Common.{◌≡◌, ℕ, ◌+◌, ◌-◌, ◌≤◌, Bool, true, false, List, [], ◌∷◌, ◌++◌, length, map, nat_le, if◌then◌else◌, Option, Some, None, Ok, Err, ◌⊎◌, inl, inr, refl, sym, ap, ◌∙◌, arith}
+use Rattle.std.proofs.Common.{◌≡◌, ℕ, ◌+◌, ◌-◌, ◌≤◌, Bool, true, false, List, [], ◌∷◌, ◌++◌, length, map, nat_le, if◌then◌else◌, Option, Some, None, Ok, Err, ◌⊎◌, inl, inr, refl, ap, ◌∙◌, arith}
 use Rattle.std.proofs.lemmas.Bool.Decides.{nat_tests}
 use Rattle.std.proofs.lemmas.List.{map-append}
 use Rattle.xs_outside.specs.declared.object.Object.{Object}
@@ -105,9 +105,6 @@ pub record SaysNone (files : Files) (verdict : Verdict) (name : List ℕ) (next 
   pub none : (s : SceneRecord) → Says files name s → ⊥
   pub ends : loading_scene files verdict name next ≡ after (Ask name ∷ []) (ended status)
 
-some_same : {A : Type 0} {x y : A} → Some x ≡ Some y → x ≡ y
-some_same e = cc
-
 module _ (files : Files) (verdict : Verdict) (name : List ℕ) (next : SceneRecord → Outcome) where
   abbrev SaysOrNot : Type 0
   SaysOrNot = ((s : SceneRecord) × Says files name s) ⊎ SaysNone files verdict name next
@@ -121,7 +118,7 @@ module _ (files : Files) (verdict : Verdict) (name : List ℕ) (next : SceneReco
   read_or_not bytes there short (Err fault) e = inr (record {
     status = answers.Scene fault;
     other = λ same. absurd cc;
-    none = λ s says. let same : says.bytes ≡ bytes = some_same (sym says.there ∙ there) in absurd (let text = says.text in cc);
+    none = λ s says. let same : says.bytes ≡ bytes = cc (says.there, there) in absurd (let text = says.text in cc);
     ends =
         scene_asked files verdict name next
         ∙ ap (after (Ask name ∷ [])) (found_there SCENE_LIMIT _ _ load (files name) bytes there short ∙ ap (λ reading. decoded verdict reading next) e);
@@ -133,7 +130,7 @@ module _ (files : Files) (verdict : Verdict) (name : List ℕ) (next : SceneReco
   short_or_not bytes there false e = inr (record {
     status = no_scene scene_code.TooLong;
     other = λ same. absurd cc;
-    none = λ s says. let same : says.bytes ≡ bytes = some_same (sym says.there ∙ there) in absurd (let short = says.short in grind (arith, nat_tests));
+    none = λ s says. let same : says.bytes ≡ bytes = cc (says.there, there) in absurd (let short = says.short in grind (arith, nat_tests));
     ends =
         scene_asked files verdict name next
         ∙ ap (after (Ask name ∷ [])) (found_too_long SCENE_LIMIT _ _ load (files name) bytes there (grind (arith, nat_tests)));

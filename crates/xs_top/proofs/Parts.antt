@@ -1,9 +1,10 @@
 -- Parts of a run, one after another.
-use Rattle.std.proofs.Common.{◌≡◌, List, [], ◌∷◌, ◌++◌, refl, false, sym, ap, ◌∙◌, append_assoc, inl, inr}
-use Rattle.xs_outside.proofs.Growth.{more-nothing, more-more}
+use Rattle.std.proofs.Common.{◌≡◌, List, [], ◌∷◌, ◌++◌, Option, Some, None, refl, false, sym, ap, ◌∙◌, append_assoc, inl, inr}
+use Rattle.std.proofs.lemmas.List.{append-nil}
+use Rattle.xs_outside.specs.Told.{more}
 use Rattle.xs_top.specs.declared.status.Status.{Status}
 use Rattle.xs_top.specs.declared.status.Status.TheVariants as answers
-use Rattle.xs_top.specs.Trace.{Event, Ask, Place, Line, asks, puts, lines, Outcome, ended, after, Seen, grown}
+use Rattle.xs_top.specs.Trace.{Event, Ask, Place, Line, asks, puts, lines, Outcome, ended, after, Contents, grown}
 use Rattle.xs_top.specs.Runs.{Did, is_broken, Stopped}
 
 -- ---- the three readings of a list of events
@@ -29,10 +30,20 @@ lines-append (Line line ∷ first) then =
 
 -- ---- what is told after events
 
-pub grown-nothing : (seen : Seen) → grown seen [] ≡ seen
+pub more-nothing : {A : Type 0} (before : Option (List A)) → more before [] ≡ before
+unfolding more
+more-nothing None = refl
+more-nothing (Some told) = ap Some (append-nil told)
+
+pub more-more : {A : Type 0} (before : Option (List A)) (first then : List A) → more (more before first) then ≡ more before (first ++ then)
+unfolding more
+more-more None first then = refl
+more-more (Some told) first then = ap Some (append_assoc told first then)
+
+pub grown-nothing : (seen : Contents) → grown seen [] ≡ seen
 grown-nothing seen = simp more-nothing
 
-pub grown-grown : (seen : Seen) (first then : List Event) → grown (grown seen first) then ≡ grown seen (first ++ then)
+pub grown-grown : (seen : Contents) (first then : List Event) → grown (grown seen first) then ≡ grown seen (first ++ then)
 grown-grown seen first then = simp (more-more, asks-append, puts-append, lines-append)
 
 pub after-after : (first then : List Event) (left : Outcome) → after first (after then left) ≡ after (first ++ then) left
@@ -40,17 +51,17 @@ after-after first then left = simp append_assoc
 
 -- ---- parts
 
-pub did_nothing : (all : Outcome) (seen : Seen) → Did all all seen seen
+pub did_nothing : (all : Outcome) (seen : Contents) → Did all all seen seen
 did_nothing all seen = record { done = []; split = refl; told = sym (grown-nothing seen) }
 
-pub did_then : {a b c : Outcome} {s t u : Seen} → Did a b s t → Did b c t u → Did a c s u
+pub did_then : {a b c : Outcome} {s t u : Contents} → Did a b s t → Did b c t u → Did a c s u
 did_then {a} {b} {c} {s} {t} {u} first then = record {
   done = first.done ++ then.done;
   split = first.split ∙ (ap (after first.done) then.split ∙ after-after first.done then.done c);
   told = then.told ∙ (ap (λ seen. grown seen then.done) first.told ∙ grown-grown s first.done then.done);
 }
 
-pub stopped_then : (a b : Outcome) (s t u : Seen) (status : Status) → Did a b s t → Stopped b t u status → Stopped a s u status
+pub stopped_then : (a b : Outcome) (s t u : Contents) (status : Status) → Did a b s t → Stopped b t u status → Stopped a s u status
 stopped_then a b s t u answers.ReadFault first then =
     record { name = then.name; left = then.left; whole = then.whole; did = did_then first then.did; asked = then.asked }
 stopped_then a b s t u answers.WriteFault first (inl then) =
@@ -65,7 +76,7 @@ stopped_then a b s t u (answers.Level drawing code) first then = did_then first 
 stopped_then a b s t u answers.NotYet first then = did_then first then
 
 -- an answer after which no work is undone ends the run
-pub stopped_whole : (all : Outcome) (before now : Seen) (status : Status) → is_broken status ≡ false → Did all (ended status) before now → Stopped all before now status
+pub stopped_whole : (all : Outcome) (before now : Contents) (status : Status) → is_broken status ≡ false → Did all (ended status) before now → Stopped all before now status
 stopped_whole all before now answers.ReadFault whole did = absurd cc
 stopped_whole all before now answers.WriteFault whole did = absurd cc
 stopped_whole all before now answers.Memory whole did = absurd cc
@@ -76,5 +87,5 @@ stopped_whole all before now (answers.Level drawing code) whole did = did
 stopped_whole all before now answers.NotYet whole did = did
 
 -- the rest may be named in another way
-pub did_to : (all b c : Outcome) (s t : Seen) → Did all b s t → b ≡ c → Did all c s t
+pub did_to : (all b c : Outcome) (s t : Contents) → Did all b s t → b ≡ c → Did all c s t
 did_to all b c s t d e = rw (← e) d

@@ -1,9 +1,9 @@
 -- What a render has done, without its steps.
-use Rattle.std.proofs.Common.{◌≡◌, ℕ, zero, suc, ◌≤◌, false, List, [], ◌++◌, take, drop, Option, Some, None, Ok, inl, inr, refl, sym, ap, ◌∙◌, subst, append_assoc}
+use Rattle.std.proofs.Common.{◌≡◌, ℕ, ◌≤◌, false, List, [], ◌++◌, take, drop, Option, Some, None, Ok, inl, inr, refl, sym, ap, ◌∙◌, subst, append_assoc}
+use Rattle.std.proofs.Math.Seq.{take-nil}
 use Rattle.std.proofs.lemmas.List.{take-append-drop}
 use Rattle.xs_outside.specs.Told.{more}
 use Rattle.xs_outside.specs.declared.object.Object.{Object}
-use Rattle.xs_outside.proofs.Growth.{more-nothing}
 use Rattle.xs_json.specs.declared.fault.SceneFault.{SceneFault}
 use Rattle.xs_scene.specs.Records.{SceneRecord}
 use Rattle.xs_check.specs.Passes.{Checking}
@@ -11,13 +11,14 @@ use Rattle.xs_words.specs.declared.command.Command.TheVariants as command
 use Rattle.xs_words.specs.Grammar.{reading_of}
 use Rattle.xs_top.specs.declared.status.Status.{Status}
 use Rattle.xs_top.specs.declared.status.Status.TheVariants as answers
-use Rattle.xs_top.specs.Trace.{puts, Outcome, Seen, grown}
+use Rattle.xs_top.specs.Trace.{puts, Outcome, Contents, grown}
 use Rattle.xs_top.specs.Runs.{GainedFront, is_broken, IsRun}
 use Rattle.xs_top.specs.Told.{Files, Verdict}
 use Rattle.xs_top.specs.Rows.{rows_of}
 use Rattle.xs_top.specs.Finished.{Says, frames_of}
 use Rattle.xs_top.specs.Outcome.{checked, rendering_scene, rendering, commanding, outcome}
 use Rattle.xs_top.specs.Rendered.{IsRendered, GainedFrames}
+use Rattle.xs_top.proofs.Parts.{more-nothing}
 use Rattle.xs_top.proofs.Wholes.{front}
 use Rattle.xs_top.proofs.Commands.{command_obeyed}
 use Rattle.xs_top.proofs.Finishing.{scene_through, rendered_asks, rendered_puts, rendered_lines}
@@ -28,12 +29,8 @@ checked_good : (fault : Option SceneFault) (next : Outcome) → (checked fault n
 checked_good None next e = refl
 checked_good (Some fault) next e = absurd cc
 
-none_taken : {A : Type 0} (n : ℕ) → take {A = A} n [] ≡ []
-none_taken zero = refl
-none_taken (suc n) = refl
-
 take_none : {A : Type 0} (n : ℕ) (xs : List A) → xs ≡ [] → take n xs ≡ []
-take_none n xs e = rw e (none_taken n)
+take_none n xs e = rw e (take-nil n)
 
 module _ (files : Files) (verdict : Verdict) (name base : List ℕ) (from to : ℕ) (ordered : from ≤ to) where
   -- a render that ends well has read a scene without a fault
@@ -50,7 +47,7 @@ module _ (files : Files) (verdict : Verdict) (name base : List ℕ) (from to : �
         | inr none ↦ absurd (none.other (ap (λ o. o.status) (sym none.ends) ∙ ends))
       ]
 
-  rendered_all : ((s : SceneRecord) → Checking s (verdict s)) → (before now : Seen) → now ≡ grown before (rendering files verdict name from to base).work → (rendering files verdict name from to base).status ≡ answers.Ok → IsRendered files name base from to before now
+  rendered_all : ((s : SceneRecord) → Checking s (verdict s)) → (before now : Contents) → now ≡ grown before (rendering files verdict name from to base).work → (rendering files verdict name from to base).status ≡ answers.Ok → IsRendered files name base from to before now
   rendered_all right before now whole ends =
       let read = rendered_scene ends in
       let s = read.0 in
@@ -82,13 +79,13 @@ module _ (files : Files) (verdict : Verdict) (name base : List ℕ) (from to : �
       front before now (take n placed) (drop n placed ++ f.rest) _ told
       (f.split ∙ (ap (λ l. l ++ f.rest) (sym (take-append-drop n placed)) ∙ append_assoc (take n placed) (drop n placed) f.rest))
 
-  frames_gained : (before now : Seen) → GainedFront (rendering files verdict name from to base) before now → GainedFrames files name base from to before.shelf now.shelf
+  frames_gained : (before now : Contents) → GainedFront (rendering files verdict name from to base) before now → GainedFrames files name base from to before.shelf now.shelf
   frames_gained before now gained = record {
     some = λ s says. first_frames s says gained.shelf.0 before.shelf now.shelf gained.shelf.1;
     none = λ nothing. gained.shelf.1 ∙ (ap (more before.shelf) (take_none gained.shelf.0 _ (nothing_placed nothing)) ∙ more-nothing _);
   }
 
-module _ (files : Files) (verdict : Verdict) (words : List (List ℕ)) (name base : List ℕ) (from to workers : ℕ) (ordered : from ≤ to) (reads : reading_of words ≡ Ok (command.Render name from to workers base)) (before now : Seen) (result : Status) (run : IsRun (outcome files verdict words) before now result) where
+module _ (files : Files) (verdict : Verdict) (words : List (List ℕ)) (name base : List ℕ) (from to workers : ℕ) (ordered : from ≤ to) (reads : reading_of words ≡ Ok (command.Render name from to workers base)) (before now : Contents) (result : Status) (run : IsRun (outcome files verdict words) before now result) where
   is_rendering : outcome files verdict words ≡ rendering files verdict name from to base
   unfolding commanding
   is_rendering = command_obeyed files verdict words (command.Render name from to workers base) reads

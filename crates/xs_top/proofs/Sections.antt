@@ -2,6 +2,7 @@
 use Rattle.std.proofs.Common.{◌≡◌, ℕ, ◌+◌, ◌-◌, ◌<◌, ◌≤◌, ◌&&◌, Bool, true, false, List, [], ◌∷◌, ◌++◌, length, get_or, map, flat_map, drop, IfSome, is_some, is_none, nat_lt, ◌||◌, zero, suc, slice_get, option_and_then, replicate, Option, Some, None, refl, sym, ap, ◌∙◌, arith}
 use Rattle.std.specs.List.{range_with_len, AllByRecursion}
 use Rattle.std.specs.Simd.Lanes.{Each1}
+use Rattle.std.proofs.Math.Bool.{or-true}
 use Rattle.std.proofs.lemmas.Bool.Decides.{nat_tests}
 use Rattle.std.proofs.lemmas.List.{append-nil, length-replicate}
 use Rattle.std.proofs.lemmas.List.Elements.{All-from_recursion}
@@ -27,7 +28,7 @@ use Rattle.xs_top.specs.Told.{Files}
 use Rattle.xs_top.specs.Levels.{file_of, kind_of, raw_kind_of, needed, are_bytes, palettes_of, picture_in, pictures_of, AreShown, HasRoom, Holds}
 use Rattle.xs_top.specs.Rows.{section_rows, sections_in, sections_of, rows_before}
 use Rattle.xs_top.specs.Outcome.{loading, placing_rows, rendering_section, rendering_sections}
-use Rattle.xs_top.proofs.Listings.{listed-append, or_true}
+use Rattle.xs_top.proofs.Listings.{listed-append}
 use Rattle.xs_top.proofs.RowRanges.{range_next, range_over, range-append}
 
 -- ---- the pictures of files hold pixels
@@ -80,7 +81,7 @@ pictures_hold hold files s d = file_holds hold (palettes_of s) (kind_of s d) (fi
 pub listed_held : (h : Held) (known ds : List ℕ) → Holds h (known ++ ds) → AreHeld h ds
 listed_held h known ds holds = λ k x within.
     let there : is_listed ds (get_or ds k x) ≡ true = list_any_at _ ds k x within (grind (arith, nat_tests)) in
-    holds (get_or ds k x) ∙ (listed-append known ds (get_or ds k x) ∙ (ap (λ t. is_listed known (get_or ds k x) || t) there ∙ or_true _))
+    holds (get_or ds k x) ∙ (listed-append known ds (get_or ds k x) ∙ (ap (λ t. is_listed known (get_or ds k x) || t) there ∙ or-true _))
 
 none_in : (n d : ℕ) → is_some (option_and_then (λ slot. slot) (slice_get {X = Option (Raw × Option ℕ)} (replicate n None) d)) ≡ false
 none_in zero d = refl

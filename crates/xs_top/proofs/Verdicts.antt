@@ -11,10 +11,10 @@ use Rattle.xs_check.specs.Passes.{Checking}
 use Rattle.xs_json.specs.declared.code.SceneCode.{SceneCode}
 use Rattle.xs_json.specs.declared.code.SceneCode.TheVariants as scene_code
 use Rattle.xs_top.specs.declared.TheConstants.{SCENE_LIMIT}
-use Rattle.xs_top.specs.Trace.{Outcome, ended, Seen}
+use Rattle.xs_top.specs.Trace.{Outcome, ended, Contents}
 use Rattle.xs_top.specs.Runs.{Stopped}
 use Rattle.xs_top.specs.Scenes.{ReadsScene}
-use Rattle.xs_top.specs.Causes.{is_lost_scene, is_lost}
+use Rattle.xs_top.specs.Causes.{is_lost_scene, is_of_library}
 use Rattle.xs_top.specs.Texts.{scene_status}
 use Rattle.xs_top.specs.Told.{Files, Verdict}
 use Rattle.xs_top.specs.Outcome.{no_scene, asking, checked, decoded, loading_scene}
@@ -34,7 +34,7 @@ module _ (one : OneFinding) (verdict : Verdict) (reading : Reading SceneRecord) 
   fault_found fault (inl e) = rw e refl
   fault_found fault (inr found) = decoded_as found.0 (Some fault) found.1 found.2
 
-  pub scene_refused : (seen : Seen) (fault : FieldFault) → ReadsScene (Err fault) reading → Stopped (decoded verdict reading next) seen seen (scene_status fault)
+  pub scene_refused : (seen : Contents) (fault : FieldFault) → ReadsScene (Err fault) reading → Stopped (decoded verdict reading next) seen seen (scene_status fault)
   scene_refused seen (field.Fault fault) reads = rw (fault_found fault reads) (did_nothing _ _)
   scene_refused seen field.Memory reads = (_, did_nothing _ _)
 
@@ -69,7 +69,7 @@ not_lost among absent long scene_code.TooLong is = absurd (cc)
 not_lost among absent long scene_code.CamerasDiffer is = refl
 
 -- a fault of reading or checking is never that there is no file, or one too long
-pub fault_kept : CheckingCodes → TextCodes → (bytes : List ℕ) (fault : FieldFault) → ReadsScene (Err fault) (scene_of bytes) → is_lost (scene_status fault) ≡ false
+pub fault_kept : CheckingCodes → TextCodes → (bytes : List ℕ) (fault : FieldFault) → ReadsScene (Err fault) (scene_of bytes) → is_of_library (scene_status fault) ≡ false
 fault_kept checking texts bytes (field.Fault fault) (inl e) = not_lost is_text_code refl refl fault.code (texts bytes fault e)
 fault_kept checking texts bytes (field.Fault fault) (inr found) = not_lost is_of_checking refl refl fault.code (checking found.0 fault found.2)
 fault_kept checking texts bytes field.Memory reads = refl

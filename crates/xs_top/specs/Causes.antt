@@ -1,10 +1,15 @@
-use Rattle.std.specs.Prelude.{◌≡◌, Bool, true, false, Result, Ok, Err}
+use Rattle.std.specs.Prelude.{Bool, true, false, Result, Ok, Err}
 use Rattle.xs_json.specs.declared.code.SceneCode.{SceneCode}
 use Rattle.xs_json.specs.declared.code.SceneCode.TheVariants as scene
 use Rattle.xs_rawfile.specs.declared.fault.LevelCode.{LevelCode}
 use Rattle.xs_rawfile.specs.declared.fault.LevelCode.TheVariants as level
 use Rattle.xs_top.specs.declared.status.Status.{Status}
 use Rattle.xs_top.specs.declared.status.Status.TheVariants as answers
+
+-- the answer with which a function ends a run; Ok where it came through
+abbrev pub answer_of : {A : Type 0} → Result A Status → Status
+answer_of (Ok value) = answers.Ok
+answer_of (Err status) = status
 
 -- the codes of a file that is not there or too long
 abbrev pub is_lost_scene : SceneCode → Bool
@@ -23,20 +28,14 @@ is_lost (answers.Scene fault) = is_lost_scene fault.code
 is_lost (answers.Level drawing code) = is_lost_level code
 is_lost status = false
 
--- an answer of which a fault of the outside is the cause, or may be
-abbrev pub is_of_outside : Status → Bool
-is_of_outside answers.ReadFault = true
-is_of_outside answers.WriteFault = true
-is_of_outside (answers.Scene fault) = is_lost_scene fault.code
-is_of_outside (answers.Level drawing code) = is_lost_level code
-is_of_outside status = false
+-- an answer of which a fault of the library is the cause, or may be
+abbrev pub is_of_library : Status → Bool
+is_of_library answers.ReadFault = true
+is_of_library (answers.Scene fault) = is_lost_scene fault.code
+is_of_library (answers.Level drawing code) = is_lost_level code
+is_of_library status = false
 
--- a function came through, or its answer has another cause
-abbrev pub IsSilent : {A : Type 0} → Result A Status → Type 0
-IsSilent (Ok value) = Unit {0}
-IsSilent (Err status) = is_of_outside status ≡ false
-
--- a function answered so
-abbrev pub IsLost : {A : Type 0} → Result A Status → Type 0
-IsLost (Ok value) = ⊥
-IsLost (Err status) = is_lost status ≡ true
+-- an answer of which a fault of the shelf or of the notes is the cause
+abbrev pub is_of_output : Status → Bool
+is_of_output answers.WriteFault = true
+is_of_output status = false

@@ -4,7 +4,7 @@ use Rattle.xs_outside.specs.Told.{more}
 use Rattle.xs_scene.specs.Records.{SceneRecord}
 use Rattle.xs_check.specs.Passes.{Checking}
 use Rattle.xs_schematic.specs.Once.{each_once}
-use Rattle.xs_top.specs.Trace.{Seen}
+use Rattle.xs_top.specs.Trace.{Contents}
 use Rattle.xs_top.specs.Told.{Files}
 use Rattle.xs_top.specs.Levels.{file_of, needed}
 use Rattle.xs_top.specs.Rows.{rows_of}
@@ -16,7 +16,7 @@ use Rattle.xs_top.specs.Outcome.{rendered_line}
 -- rows are rendered whole: the library was asked for a scene and then, once, for each drawing that its rows
 -- need; the scene has no fault, and each of these drawings is there without a fault; the shelf gained exactly
 -- the frames of the rows, in order; and one line tells how many they are
-pub record IsRendered (files : Files) (name base : List ℕ) (from to : ℕ) (before now : Seen) : Type 0 where
+pub record IsRendered (files : Files) (name base : List ℕ) (from to : ℕ) (before now : Contents) : Type 0 where
   pub scene : SceneRecord
   pub says : Says files name scene
   pub faultless : Checking scene None

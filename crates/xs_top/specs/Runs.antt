@@ -1,55 +1,55 @@
 use Rattle.std.specs.Prelude.{◌≡◌, ℕ, ◌⊎◌, List, [], ◌∷◌, ◌++◌, take, Bool, true, false, Result, MatchResult}
 use Rattle.xs_outside.specs.declared.object.Object.{Object}
 use Rattle.xs_outside.specs.Told.{more}
-use Rattle.xs_top.specs.Trace.{Event, Ask, Place, Line, asks, puts, lines, Outcome, ended, after, Seen, grown, with_notes}
+use Rattle.xs_top.specs.Trace.{Event, Ask, Place, Line, asks, puts, lines, Outcome, ended, after, Contents, grown, with_notes}
 use Rattle.xs_top.specs.declared.status.Status.{Status}
 use Rattle.xs_top.specs.declared.status.Status.TheVariants as answers
 
 -- ---- a part of a run
 
 -- of all that there was to do a part was done, and this is left
-pub record Did (all left : Outcome) (before now : Seen) : Type 0 where
+pub record Did (all left : Outcome) (before now : Contents) : Type 0 where
   pub done : List Event
   pub split : all ≡ after done left
   pub told : now ≡ grown before done
 
 -- a line was begun, of which some bytes may be written
-pub record BrokeOff (line : List ℕ) (before now : Seen) : Type 0 where
+pub record BrokeOff (line : List ℕ) (before now : Contents) : Type 0 where
   pub written : ℕ
   pub told : now ≡ with_notes before (more before.notes (take written (line ++ 10 ∷ [])))
 
 -- a part was done up to a file that the shelf did not take
-pub record StoppedPlacing (all : Outcome) (before now : Seen) : Type 0 where
+pub record StoppedPlacing (all : Outcome) (before now : Contents) : Type 0 where
   pub object : Object
   pub left : Outcome
   pub did : Did all (after (Place object ∷ []) left) before now
 
 -- a part was done up to a line, behind which no file is put on the shelf
-pub record StoppedNoting (all : Outcome) (before now : Seen) : Type 0 where
+pub record StoppedNoting (all : Outcome) (before now : Contents) : Type 0 where
   pub line : List ℕ
   pub left : Outcome
   pub last : puts left.work ≡ []
-  pub whole : Seen
+  pub whole : Contents
   pub did : Did all (after (Line line ∷ []) left) before whole
   pub broke : BrokeOff line whole now
 
 -- a part was done up to a file that was asked for in vain
-pub record StoppedAsking (all : Outcome) (before now : Seen) : Type 0 where
+pub record StoppedAsking (all : Outcome) (before now : Contents) : Type 0 where
   pub name : List ℕ
   pub left : Outcome
-  pub whole : Seen
+  pub whole : Contents
   pub did : Did all (after (Ask name ∷ []) left) before whole
   pub asked : now ≡ grown whole (Ask name ∷ [])
 
 -- what was done where a run stopped with this status
-abbrev pub Stopped : Outcome → Seen → Seen → Status → Type 0
+abbrev pub Stopped : Outcome → Contents → Contents → Status → Type 0
 Stopped all before now answers.ReadFault = StoppedAsking all before now
 Stopped all before now answers.WriteFault = StoppedPlacing all before now ⊎ StoppedNoting all before now
 Stopped all before now answers.Memory = (left : Outcome) × Did all left before now
 Stopped all before now status = Did all (ended status) before now
 
 -- a part of a run came through to what is left, or stopped
-abbrev pub Runs : {A : Type 0} → Outcome → (A → Outcome) → Seen → Seen → Result A Status → Type 0
+abbrev pub Runs : {A : Type 0} → Outcome → (A → Outcome) → Contents → Contents → Result A Status → Type 0
 Runs all left before now result = MatchResult result (λ value. Did all (left value) before now) (Stopped all before now)
 
 -- ---- a whole run
@@ -62,7 +62,7 @@ is_broken answers.Memory = true
 is_broken status = false
 
 -- each list gained a front part of what the outcome gives it
-pub record GainedFront (all : Outcome) (before now : Seen) : Type 0 where
+pub record GainedFront (all : Outcome) (before now : Contents) : Type 0 where
   pub asked : (n : ℕ) × (now.asked ≡ more before.asked (take n (asks all.work)))
   pub shelf : (n : ℕ) × (now.shelf ≡ more before.shelf (take n (puts all.work)))
   pub notes : (n : ℕ) × (now.notes ≡ more before.notes (take n (lines all.work)))
@@ -71,7 +71,7 @@ pub record GainedFront (all : Outcome) (before now : Seen) : Type 0 where
 -- answer and all the work are the outcome's; in each case a front part of the work was done, of all three
 -- lists together; after a fault of reading exactly the part up to the file that was asked for last, and
 -- after one of writing exactly the part before the file or the line that was not taken
-pub record IsRun (all : Outcome) (before now : Seen) (result : Status) : Type 0 where
+pub record IsRun (all : Outcome) (before now : Contents) (result : Status) : Type 0 where
   pub answer : is_broken result ≡ false → result ≡ all.status
   pub whole : is_broken result ≡ false → now ≡ grown before all.work
   pub front : GainedFront all before now

@@ -49,13 +49,13 @@ after events next = record { status = next.status; work = events ++ next.work }
 -- ---- what the outside tells of it
 
 -- what a library, a shelf and notes tell, each perhaps nothing
-pub record Seen : Type 0 where
+pub record Contents : Type 0 where
   pub asked : Option (List (List ℕ))
   pub shelf : Option (List Object)
   pub notes : Option (List ℕ)
 
 -- what they tell after these events
-abbrev pub grown : Seen → List Event → Seen
+abbrev pub grown : Contents → List Event → Contents
 grown seen events = record {
   asked = more seen.asked (asks events);
   shelf = more seen.shelf (puts events);
@@ -63,11 +63,11 @@ grown seen events = record {
 }
 
 -- one of the three tells something else
-abbrev pub with_asked : Seen → Option (List (List ℕ)) → Seen
+abbrev pub with_asked : Contents → Option (List (List ℕ)) → Contents
 with_asked seen asked = record seen { asked = asked }
 
-abbrev pub with_shelf : Seen → Option (List Object) → Seen
+abbrev pub with_shelf : Contents → Option (List Object) → Contents
 with_shelf seen shelf = record seen { shelf = shelf }
 
-abbrev pub with_notes : Seen → Option (List ℕ) → Seen
+abbrev pub with_notes : Contents → Option (List ℕ) → Contents
 with_notes seen notes = record seen { notes = notes }

@@ -1,14 +1,16 @@
-ghost use Rattle.std.specs.Prelude.{◌≡◌, ◌≤◌, ◌⊎◌, ℕ, List, Some, Ok, IfOk, IsErrOf, map, string_bytes, None, true, false};
+ghost use Rattle.std.specs.Prelude.{◌≡◌, ◌≤◌, ◌⊎◌, ℕ, List, Some, Ok, IfOk, IsErrOf, map, string_bytes, false};
+ghost use Rattle.serde_json.specs.Written.{compact_text};
 ghost use Rattle.xs_outside.specs.Told.{Rose, more};
+ghost use Rattle.xs_scene_json.specs.SceneData.{scene_data};
 ghost use Rattle.xs_words.specs.Commands.{IsCommand};
 ghost use Rattle.xs_words.specs.Grammar.{reading_of};
-ghost use Rattle.xs_top.specs.Causes.{IsLost, IsSilent, is_lost, is_of_outside};
-ghost use Rattle.xs_top.specs.Trace.{Seen, puts, ended, with_asked, with_notes};
-ghost use Rattle.xs_top.specs.Leaves.{LeavesLibrary, LeavesOutput};
+ghost use Rattle.xs_top.specs.Causes.{answer_of, is_of_library, is_of_output};
+ghost use Rattle.xs_top.specs.Trace.{Contents, puts, ended, with_asked, with_notes};
+ghost use Rattle.xs_top.specs.Leaves.{LeavesLibrary, LeavesOutput, LeavesOutputs};
 ghost use Rattle.xs_top.specs.Runs.{Runs, IsRun};
 ghost use Rattle.xs_top.specs.Told.{Files, Verdict, IsVerdict};
 ghost use Rattle.xs_top.specs.Rendered.{IsRendered, GainedFrames};
-ghost use Rattle.xs_top.specs.Outcome.{rendered_line, rendering, showing, commanding, outcome};
+ghost use Rattle.xs_top.specs.Outcome.{rendered_line, closing, rendering, showing, commanding, outcome};
 
 use crate::render::render_rows;
 use crate::scene::load_scene;
@@ -16,6 +18,7 @@ use crate::status::{Status, status_of};
 use crate::steps::note;
 use std::alloc::Global;
 use std::marker::Brand;
+use xs_check::GoodScene;
 use xs_check::laws::checking_finds_one_thing;
 use xs_outside::{Library, Notes, Shelf};
 use xs_pixel::Memory;
@@ -28,6 +31,18 @@ fn rendered_line(alloc: Global, rows: u32) -> Result<String, Memory>
     ensures { IfOk result (λ line. string_bytes line ≡ rendered_line rows) }
 {
     Ok(format!(in alloc; "rendered {rows} rows")?)
+}
+
+/// Writes the line at the end of so many rows.
+fn note_rows<T: Notes>(alloc: Global, notes: &mut T, rows: u32) -> Result<(), Status>
+    ensures told { (seen : Contents) → Runs (closing rows) (λ _. ended Status.Ok)
+        (with_notes seen (T.written notes.old)) (with_notes seen (T.written notes.new)) result }
+    ensures notes { LeavesOutput (T.faults notes.old) (T.faults notes.new) (answer_of result) }
+    ensures library { is_of_library (answer_of result) ≡ false }
+{
+    let line = rendered_line(alloc, rows)?;
+    note(alloc, notes, line.as_bytes())?;
+    Ok(())
 }
 
 /// Renders rows `from` to `to` of a scene.
@@ -47,11 +62,8 @@ fn render<L: Library, S: Shelf, T: Notes>(
         → Runs (rendering files verdict scene.now from to base.now) (λ _. ended Status.Ok)
         (record { asked = L.asked lib.old; shelf = S.objects shelf.old; notes = T.written notes.old })
         (record { asked = L.asked lib.new; shelf = S.objects shelf.new; notes = T.written notes.new }) result }
-    ensures library { LeavesLibrary (L.files lib.old) (L.files lib.new) (L.faults lib.old) (L.faults lib.new) result }
-    ensures write { IsErrOf result Status.WriteFault
-        → Rose (S.faults shelf.old) (S.faults shelf.new) ⊎ Rose (T.faults notes.old) (T.faults notes.new) }
-    ensures silent_shelf { IsSilent result → S.faults shelf.new ≡ S.faults shelf.old }
-    ensures silent_notes { IsSilent result → T.faults notes.new ≡ T.faults notes.old }
+    ensures library { LeavesLibrary (L.files lib.old) (L.files lib.new) (L.faults lib.old) (L.faults lib.new) (answer_of result) }
+    ensures outputs { LeavesOutputs (S.faults shelf.old) (S.faults shelf.new) (T.faults notes.old) (T.faults notes.new) (answer_of result) }
     ensures placed { (files : Files) → L.files lib.old ≡ Some files → (verdict : Verdict) → IsVerdict files verdict
         → IsErrOf result Status.WriteFault
         → (S.objects shelf.new ≡ more (S.objects shelf.old) (puts (rendering files verdict scene.now from to base.now).work))
@@ -59,9 +71,15 @@ fn render<L: Library, S: Shelf, T: Notes>(
 {
     let good = load_scene(alloc, lib, scene)?;
     render_rows::<Brand, L, S>(alloc, &good, from, to, base, lib, shelf)?;
-    let line = rendered_line(alloc, to + 1 - from)?;
-    note(alloc, notes, line.as_bytes())?;
+    note_rows(alloc, notes, to + 1 - from)?;
     Ok(())
+}
+
+/// The one text of a scene in format 2.
+fn shown_line(alloc: Global, good: GoodScene) -> Result<Vec<u8>, Memory>
+    ensures { IfOk result (λ line. line.items ≡ compact_text (scene_data (record good { format = 2 }))) }
+{
+    encode(alloc, &good.into_scene().migrated())
 }
 
 /// Writes the one text of a scene in format 2.
@@ -72,14 +90,14 @@ fn show<L: Library, T: Notes>(
     notes: &mut T,
 ) -> Result<(), Status>
     ensures told { (files : Files) → L.files lib.old ≡ Some files → (verdict : Verdict) → IsVerdict files verdict
-        → (seen : Seen) → Runs (showing files verdict scene.now) (λ _. ended Status.Ok)
+        → (seen : Contents) → Runs (showing files verdict scene.now) (λ _. ended Status.Ok)
         (with_notes (with_asked seen (L.asked lib.old)) (T.written notes.old))
         (with_notes (with_asked seen (L.asked lib.new)) (T.written notes.new)) result }
-    ensures library { LeavesLibrary (L.files lib.old) (L.files lib.new) (L.faults lib.old) (L.faults lib.new) result }
-    ensures notes { LeavesOutput (T.faults notes.old) (T.faults notes.new) result }
+    ensures library { LeavesLibrary (L.files lib.old) (L.files lib.new) (L.faults lib.old) (L.faults lib.new) (answer_of result) }
+    ensures notes { LeavesOutput (T.faults notes.old) (T.faults notes.new) (answer_of result) }
 {
     let good = load_scene(alloc, lib, scene)?;
-    let line = encode(alloc, &good.into_scene().migrated())?;
+    let line = shown_line(alloc, good)?;
     note(alloc, notes, line.as_slice())?;
     Ok(())
 }
@@ -97,11 +115,8 @@ fn obey<L: Library, S: Shelf, T: Notes>(
         → Runs (commanding files verdict command.now) (λ _. ended Status.Ok)
         (record { asked = L.asked lib.old; shelf = S.objects shelf.old; notes = T.written notes.old })
         (record { asked = L.asked lib.new; shelf = S.objects shelf.new; notes = T.written notes.new }) result }
-    ensures library { LeavesLibrary (L.files lib.old) (L.files lib.new) (L.faults lib.old) (L.faults lib.new) result }
-    ensures write { IsErrOf result Status.WriteFault
-        → Rose (S.faults shelf.old) (S.faults shelf.new) ⊎ Rose (T.faults notes.old) (T.faults notes.new) }
-    ensures silent_shelf { IsSilent result → S.faults shelf.new ≡ S.faults shelf.old }
-    ensures silent_notes { IsSilent result → T.faults notes.new ≡ T.faults notes.old }
+    ensures library { LeavesLibrary (L.files lib.old) (L.files lib.new) (L.faults lib.old) (L.faults lib.new) (answer_of result) }
+    ensures outputs { LeavesOutputs (S.faults shelf.old) (S.faults shelf.new) (T.faults notes.old) (T.faults notes.new) (answer_of result) }
     ensures placed { (files : Files) → L.files lib.old ≡ Some files → (verdict : Verdict) → IsVerdict files verdict
         → IsErrOf result Status.WriteFault
         → (S.objects shelf.new ≡ more (S.objects shelf.old) (puts (commanding files verdict command.now).work))
@@ -130,14 +145,13 @@ fn obey<L: Library, S: Shelf, T: Notes>(
 
 /// The command that the words say.
 fn command_of(alloc: Global, words: &Vec<String>) -> Result<Command, Status>
-    ensures told { (files : Files) (verdict : Verdict) (seen : Seen) →
+    ensures told { (files : Files) (verdict : Verdict) (seen : Contents) →
         Runs (outcome files verdict (map string_bytes words.now.items)) (commanding files verdict) seen seen result }
     ensures command { IfOk result (λ command. (files : Files) (verdict : Verdict)
         → outcome files verdict (map string_bytes words.now.items) ≡ commanding files verdict command) }
     ensures range { IfOk result IsCommand }
-    ensures found { IsLost result → ⊥ }
-    ensures read { IsErrOf result Status.ReadFault → ⊥ }
-    ensures write { IsErrOf result Status.WriteFault → ⊥ }
+    ensures library { is_of_library (answer_of result) ≡ false }
+    ensures output { is_of_output (answer_of result) ≡ false }
 {
     match read_words(alloc, words.as_slice()) {
         Ok(command) => Ok(command),
@@ -157,11 +171,8 @@ fn try_run<L: Library, S: Shelf, T: Notes>(
         → Runs (outcome files verdict (map string_bytes words.now.items)) (λ _. ended Status.Ok)
         (record { asked = L.asked lib.old; shelf = S.objects shelf.old; notes = T.written notes.old })
         (record { asked = L.asked lib.new; shelf = S.objects shelf.new; notes = T.written notes.new }) result }
-    ensures library { LeavesLibrary (L.files lib.old) (L.files lib.new) (L.faults lib.old) (L.faults lib.new) result }
-    ensures write { IsErrOf result Status.WriteFault
-        → Rose (S.faults shelf.old) (S.faults shelf.new) ⊎ Rose (T.faults notes.old) (T.faults notes.new) }
-    ensures silent_shelf { IsSilent result → S.faults shelf.new ≡ S.faults shelf.old }
-    ensures silent_notes { IsSilent result → T.faults notes.new ≡ T.faults notes.old }
+    ensures library { LeavesLibrary (L.files lib.old) (L.files lib.new) (L.faults lib.old) (L.faults lib.new) (answer_of result) }
+    ensures outputs { LeavesOutputs (S.faults shelf.old) (S.faults shelf.new) (T.faults notes.old) (T.faults notes.new) (answer_of result) }
     ensures placed { (files : Files) → L.files lib.old ≡ Some files → (verdict : Verdict) → IsVerdict files verdict
         → IsErrOf result Status.WriteFault
         → (S.objects shelf.new ≡ more (S.objects shelf.old) (puts (outcome files verdict (map string_bytes words.now.items)).work))
@@ -199,16 +210,9 @@ pub fn run<L: Library, S: Shelf, T: Notes>(
         → GainedFrames files scene base from to (S.objects shelf.old) (S.objects shelf.new) }
 
     // A fault is told only where the count of its object rose, and so is an absent or too long file by a
-    // library that does not tell its files.
-    ensures untold { L.files lib.old ≡ None → is_lost result ≡ true → Rose (L.faults lib.old) (L.faults lib.new) }
-    ensures read { result ≡ Status.ReadFault → Rose (L.faults lib.old) (L.faults lib.new) }
-    ensures write { result ≡ Status.WriteFault
-        → Rose (S.faults shelf.old) (S.faults shelf.new) ⊎ Rose (T.faults notes.old) (T.faults notes.new) }
-
-    // No fault is passed over: any other answer leaves the counts.
-    ensures silent { is_of_outside result ≡ false → L.faults lib.new ≡ L.faults lib.old }
-    ensures silent_shelf { is_of_outside result ≡ false → S.faults shelf.new ≡ S.faults shelf.old }
-    ensures silent_notes { is_of_outside result ≡ false → T.faults notes.new ≡ T.faults notes.old }
+    // library that does not tell its files. No fault is passed over: any other answer leaves the count.
+    ensures library { LeavesLibrary (L.files lib.old) (L.files lib.new) (L.faults lib.old) (L.faults lib.new) result }
+    ensures outputs { LeavesOutputs (S.faults shelf.old) (S.faults shelf.new) (T.faults notes.old) (T.faults notes.new) result }
 
     // After a fault of writing that is not the shelf's, each frame stands on the shelf.
     ensures placed { (files : Files) → L.files lib.old ≡ Some files → result ≡ Status.WriteFault

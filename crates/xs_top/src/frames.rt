@@ -1,10 +1,10 @@
-ghost use Rattle.std.specs.Prelude.{◌≡◌, ◌<◌, ◌+◌, ◌^◌, Some, IfOk, IsErrOf, string_bytes};
+ghost use Rattle.std.specs.Prelude.{◌≡◌, ◌<◌, ◌+◌, ◌^◌, Some, IfOk, string_bytes, false};
 ghost use Rattle.std.specs.List.{range_with_len};
 ghost use Rattle.xs_direct.specs.Pictures.{AreHeld};
 ghost use Rattle.xs_meaning.specs.Drawings.{Pictures, ArePixels};
 ghost use Rattle.xs_meaning.specs.Expressions.{drawings_of, root_of};
-ghost use Rattle.xs_top.specs.Causes.{IsLost};
-ghost use Rattle.xs_top.specs.Trace.{Outcome, Seen, with_shelf};
+ghost use Rattle.xs_top.specs.Causes.{answer_of, is_of_library};
+ghost use Rattle.xs_top.specs.Trace.{Outcome, Contents, with_shelf};
 ghost use Rattle.xs_top.specs.Leaves.{LeavesOutput};
 ghost use Rattle.xs_top.specs.Runs.{Runs};
 ghost use Rattle.xs_top.specs.Frames.{frame_name_of, frame_at};
@@ -44,12 +44,11 @@ fn place_row<K: Film, S: Shelf>(
     shelf: &mut S,
 ) -> Result<(), Status>
     ensures told { (pictures : Pictures) → K.pictures ≡ Some pictures → ArePixels pictures
-        → AreHeld drawings.now (drawings_of (root_of good.now row)) → (next : Outcome) (seen : Seen)
+        → AreHeld drawings.now (drawings_of (root_of good.now row)) → (next : Outcome) (seen : Contents)
         → Runs (placing (frame_at good.now pictures base.now row) next) (λ _. next)
         (with_shelf seen (S.objects shelf.old)) (with_shelf seen (S.objects shelf.new)) result }
-    ensures shelf { LeavesOutput (S.faults shelf.old) (S.faults shelf.new) result }
-    ensures found { IsLost result → ⊥ }
-    ensures read { IsErrOf result Status.ReadFault → ⊥ }
+    ensures shelf { LeavesOutput (S.faults shelf.old) (S.faults shelf.new) (answer_of result) }
+    ensures library { is_of_library (answer_of result) ≡ false }
 {
     let name = frame_name(alloc, base, row)?;
     let bytes = frame_direct(alloc, good, drawings, row)?;
@@ -69,12 +68,11 @@ pub(crate) fn place_rows<K: Film, S: Shelf>(
 ) -> Result<(), Status>
     requires { first + rows < 2 ^ 32 }
     ensures told { (pictures : Pictures) → K.pictures ≡ Some pictures → ArePixels pictures
-        → AreHeld drawings.now (needed good.now (range_with_len first rows)) → (next : Outcome) (seen : Seen)
+        → AreHeld drawings.now (needed good.now (range_with_len first rows)) → (next : Outcome) (seen : Contents)
         → Runs (placing_rows good.now pictures base.now (range_with_len first rows) next) (λ _. next)
         (with_shelf seen (S.objects shelf.old)) (with_shelf seen (S.objects shelf.new)) result }
-    ensures shelf { LeavesOutput (S.faults shelf.old) (S.faults shelf.new) result }
-    ensures found { IsLost result → ⊥ }
-    ensures read { IsErrOf result Status.ReadFault → ⊥ }
+    ensures shelf { LeavesOutput (S.faults shelf.old) (S.faults shelf.new) (answer_of result) }
+    ensures library { is_of_library (answer_of result) ≡ false }
 {
     for i in 0..rows {
         place_row(alloc, good, drawings, first + i, base, shelf)?;

@@ -1,11 +1,11 @@
-ghost use Rattle.std.specs.Prelude.{◌≡◌, ◌<◌, ◌+◌, ◌^◌, ℕ, List, [], ◌∷◌, ◌++◌, length, Option, None, Some, true, All, OnOk, IfOk, IsErrOf};
+ghost use Rattle.std.specs.Prelude.{◌≡◌, ◌<◌, ◌+◌, ◌^◌, ℕ, List, [], ◌∷◌, ◌++◌, length, Option, None, Some, true, All, OnOk, IfOk, false};
 ghost use Rattle.std.specs.List.{range_with_len};
 ghost use Rattle.xs_check.specs.Good.{files_of};
 ghost use Rattle.xs_meaning.specs.Expressions.{drawings_of, root_of};
 ghost use Rattle.xs_schematic.specs.Once.{fresh};
 ghost use Rattle.xs_rawfile.specs.Level.{first_fault, raw_of};
-ghost use Rattle.xs_top.specs.Causes.{IsLost};
-ghost use Rattle.xs_top.specs.Trace.{Outcome, Seen, with_asked};
+ghost use Rattle.xs_top.specs.Causes.{answer_of, is_of_library, is_of_output};
+ghost use Rattle.xs_top.specs.Trace.{Outcome, Contents, with_asked};
 ghost use Rattle.xs_top.specs.Leaves.{LeavesLibrary};
 ghost use Rattle.xs_top.specs.Runs.{Runs};
 ghost use Rattle.xs_top.specs.Told.{Files};
@@ -22,6 +22,7 @@ use xs_outside::Library;
 use xs_pixel::Film;
 use xs_rawfile::{Drawing, Drawings, LevelCode, LevelFault, RawKind, read_level};
 use xs_scene::Kind;
+use xs_schematic::laws::each_number_is_taken_once;
 
 /// The kind of the files of a level.
 fn raw_kind(kind: Kind) -> RawKind
@@ -45,14 +46,13 @@ fn palette(kind: Kind) -> Option<u32>
 
 /// The drawing that the bytes of its file hold.
 fn read_drawing(alloc: Global, d: u32, kind: RawKind, bytes: &[u8]) -> Result<Drawing, Status>
-    ensures told { (next : Outcome) (seen : Seen) →
+    ensures told { (next : Outcome) (seen : Contents) →
         Runs (accepted d (first_fault kind bytes.now) next) (λ _. next) seen seen result }
     ensures value { IfOk result (λ g. g ≡ raw_of kind bytes.now) }
     ensures accepted { OnOk result (first_fault kind bytes.now ≡ None) }
     ensures bytes { are_bytes bytes.now ≡ true }
-    ensures found { IsLost result → ⊥ }
-    ensures read { IsErrOf result Status.ReadFault → ⊥ }
-    ensures write { IsErrOf result Status.WriteFault → ⊥ }
+    ensures library { is_of_library (answer_of result) ≡ false }
+    ensures output { is_of_output (answer_of result) ≡ false }
 {
     match read_level(alloc, bytes, kind) {
         Ok(drawing) => Ok(drawing),
@@ -71,13 +71,13 @@ fn fetch_drawing<L: Library>(
 ) -> Result<Drawing, Status>
     requires number { d < length (files_of good.now.levels) }
     requires kind { kind ≡ raw_kind_of (kind_of good.now d) }
-    ensures told { (files : Files) → L.files lib.old ≡ Some files → (next : Outcome) (seen : Seen)
+    ensures told { (files : Files) → L.files lib.old ≡ Some files → (next : Outcome) (seen : Contents)
         → Runs (loading_drawing files good.now d next) (λ _. next)
         (with_asked seen (L.asked lib.old)) (with_asked seen (L.asked lib.new)) result }
     ensures kind { IfOk result (λ g. g.kind ≡ kind) }
     ensures drawing { IfOk result (λ g. (files : Files) → L.files lib.old ≡ Some files → IsFileOf files good.now d g) }
-    ensures library { LeavesLibrary (L.files lib.old) (L.files lib.new) (L.faults lib.old) (L.faults lib.new) result }
-    ensures write { IsErrOf result Status.WriteFault → ⊥ }
+    ensures library { LeavesLibrary (L.files lib.old) (L.files lib.new) (L.faults lib.old) (L.faults lib.new) (answer_of result) }
+    ensures output { is_of_output (answer_of result) ≡ false }
 {
     let absent = Status::Level {
         drawing: d,
@@ -110,13 +110,13 @@ fn load_drawing<K: Film, L: Library>(
     requires film { K.pictures ≡ film_of (L.files lib.old) good.now }
     requires number { d < length (files_of good.now.levels) }
     requires room { HasRoom good.now drawings.old }
-    ensures told { (files : Files) → L.files lib.old ≡ Some files → (next : Outcome) (seen : Seen)
+    ensures told { (files : Files) → L.files lib.old ≡ Some files → (next : Outcome) (seen : Contents)
         → Runs (loading_drawing files good.now d next) (λ _. next)
         (with_asked seen (L.asked lib.old)) (with_asked seen (L.asked lib.new)) result }
     ensures held { OnOk result ((known : List ℕ) → Holds drawings.old known → Holds drawings.new (known ++ d ∷ [])) }
     ensures room { HasRoom good.now drawings.new }
-    ensures library { LeavesLibrary (L.files lib.old) (L.files lib.new) (L.faults lib.old) (L.faults lib.new) result }
-    ensures write { IsErrOf result Status.WriteFault → ⊥ }
+    ensures library { LeavesLibrary (L.files lib.old) (L.files lib.new) (L.faults lib.old) (L.faults lib.new) (answer_of result) }
+    ensures output { is_of_output (answer_of result) ≡ false }
 {
     let kind = good.kind(d);
     let drawing = fetch_drawing(alloc, good, d, raw_kind(kind), lib)?;
@@ -136,13 +136,13 @@ fn load_if_new<K: Film, L: Library>(
     requires number { d < length (files_of good.now.levels) }
     requires room { HasRoom good.now drawings.old }
     ensures told { (files : Files) → L.files lib.old ≡ Some files → (known : List ℕ) → Holds drawings.old known
-        → (next : Outcome) (seen : Seen)
+        → (next : Outcome) (seen : Contents)
         → Runs (loading files good.now (fresh known (d ∷ [])) next) (λ _. next)
         (with_asked seen (L.asked lib.old)) (with_asked seen (L.asked lib.new)) result }
     ensures held { OnOk result ((known : List ℕ) → Holds drawings.old known → Holds drawings.new (known ++ d ∷ [])) }
     ensures room { HasRoom good.now drawings.new }
-    ensures library { LeavesLibrary (L.files lib.old) (L.files lib.new) (L.faults lib.old) (L.faults lib.new) result }
-    ensures write { IsErrOf result Status.WriteFault → ⊥ }
+    ensures library { LeavesLibrary (L.files lib.old) (L.files lib.new) (L.faults lib.old) (L.faults lib.new) (answer_of result) }
+    ensures output { is_of_output (answer_of result) ≡ false }
 {
     if drawings.get(d).is_some() {
         return Ok(());
@@ -163,13 +163,13 @@ fn load_drawings<K: Film, L: Library>(
     requires numbers { All (λ d. d < length (files_of good.now.levels)) numbers.now }
     requires room { HasRoom good.now drawings.old }
     ensures told { (files : Files) → L.files lib.old ≡ Some files → (known : List ℕ) → Holds drawings.old known
-        → (next : Outcome) (seen : Seen)
+        → (next : Outcome) (seen : Contents)
         → Runs (loading files good.now (fresh known numbers.now) next) (λ _. next)
         (with_asked seen (L.asked lib.old)) (with_asked seen (L.asked lib.new)) result }
     ensures held { OnOk result ((known : List ℕ) → Holds drawings.old known → Holds drawings.new (known ++ numbers.now)) }
     ensures room { HasRoom good.now drawings.new }
-    ensures library { LeavesLibrary (L.files lib.old) (L.files lib.new) (L.faults lib.old) (L.faults lib.new) result }
-    ensures write { IsErrOf result Status.WriteFault → ⊥ }
+    ensures library { LeavesLibrary (L.files lib.old) (L.files lib.new) (L.faults lib.old) (L.faults lib.new) (answer_of result) }
+    ensures output { is_of_output (answer_of result) ≡ false }
 {
     for d in numbers {
         load_if_new(alloc, good, *d, lib, drawings)?;
@@ -188,15 +188,16 @@ fn load_row<K: Film, L: Library>(
     requires film { K.pictures ≡ film_of (L.files lib.old) good.now }
     requires room { HasRoom good.now drawings.old }
     ensures told { (files : Files) → L.files lib.old ≡ Some files → (known : List ℕ) → Holds drawings.old known
-        → (next : Outcome) (seen : Seen)
+        → (next : Outcome) (seen : Contents)
         → Runs (loading files good.now (fresh known (drawings_of (root_of good.now row))) next) (λ _. next)
         (with_asked seen (L.asked lib.old)) (with_asked seen (L.asked lib.new)) result }
     ensures held { OnOk result ((known : List ℕ) → Holds drawings.old known
         → Holds drawings.new (known ++ drawings_of (root_of good.now row))) }
     ensures room { HasRoom good.now drawings.new }
-    ensures library { LeavesLibrary (L.files lib.old) (L.files lib.new) (L.faults lib.old) (L.faults lib.new) result }
-    ensures write { IsErrOf result Status.WriteFault → ⊥ }
+    ensures library { LeavesLibrary (L.files lib.old) (L.files lib.new) (L.faults lib.old) (L.faults lib.new) (answer_of result) }
+    ensures output { is_of_output (answer_of result) ≡ false }
 {
+    each_number_is_taken_once();
     let numbers = row_drawings(alloc, good, row)?;
     load_drawings(alloc, good, numbers.as_slice(), lib, drawings)?;
     Ok(())
@@ -215,14 +216,14 @@ pub(crate) fn load_rows<K: Film, L: Library>(
     requires rows { first + rows < 2 ^ 32 }
     requires room { HasRoom good.now drawings.old }
     ensures told { (files : Files) → L.files lib.old ≡ Some files → (known : List ℕ) → Holds drawings.old known
-        → (next : Outcome) (seen : Seen)
+        → (next : Outcome) (seen : Contents)
         → Runs (loading files good.now (fresh known (needed good.now (range_with_len first rows))) next) (λ _. next)
         (with_asked seen (L.asked lib.old)) (with_asked seen (L.asked lib.new)) result }
     ensures held { OnOk result ((known : List ℕ) → Holds drawings.old known
         → Holds drawings.new (known ++ needed good.now (range_with_len first rows))) }
     ensures room { HasRoom good.now drawings.new }
-    ensures library { LeavesLibrary (L.files lib.old) (L.files lib.new) (L.faults lib.old) (L.faults lib.new) result }
-    ensures write { IsErrOf result Status.WriteFault → ⊥ }
+    ensures library { LeavesLibrary (L.files lib.old) (L.files lib.new) (L.faults lib.old) (L.faults lib.new) (answer_of result) }
+    ensures output { is_of_output (answer_of result) ≡ false }
 {
     for i in 0..rows {
         load_row(alloc, good, first + i, lib, drawings)?;

@@ -1,6 +1,7 @@
 ghost use Rattle.std.specs.Prelude.{◌≡◌, ◌≤◌, ◌<◌, ◌+◌, ◌^◌, [], List, ℕ, ◌++◌, Some, OnOk};
 ghost use Rattle.std.specs.List.{range_with_len};
-ghost use Rattle.xs_top.specs.Trace.{Outcome, Seen, with_asked, with_shelf};
+ghost use Rattle.xs_top.specs.Causes.{answer_of};
+ghost use Rattle.xs_top.specs.Trace.{Outcome, Contents, with_asked, with_shelf};
 ghost use Rattle.xs_top.specs.Leaves.{LeavesLibrary, LeavesOutput};
 ghost use Rattle.xs_top.specs.Runs.{Runs};
 ghost use Rattle.xs_top.specs.Told.{Files};
@@ -38,15 +39,15 @@ fn render_section<K: Film, L: Library, S: Shelf>(
     requires rows { first + rows < 2 ^ 32 }
     requires room { HasRoom good.now drawings.old }
     ensures told { (files : Files) → L.files lib.old ≡ Some files → (earlier : List ℕ)
-        → Holds drawings.old (needed good.now earlier) → (next : Outcome) (seen : Seen)
+        → Holds drawings.old (needed good.now earlier) → (next : Outcome) (seen : Contents)
         → Runs (rendering_section files good.now base.now earlier (range_with_len first rows) next) (λ _. next)
         (with_shelf (with_asked seen (L.asked lib.old)) (S.objects shelf.old))
         (with_shelf (with_asked seen (L.asked lib.new)) (S.objects shelf.new)) result }
     ensures held { OnOk result ((earlier : List ℕ) → Holds drawings.old (needed good.now earlier)
         → Holds drawings.new (needed good.now (earlier ++ range_with_len first rows))) }
     ensures room { HasRoom good.now drawings.new }
-    ensures library { LeavesLibrary (L.files lib.old) (L.files lib.new) (L.faults lib.old) (L.faults lib.new) result }
-    ensures shelf { LeavesOutput (S.faults shelf.old) (S.faults shelf.new) result }
+    ensures library { LeavesLibrary (L.files lib.old) (L.files lib.new) (L.faults lib.old) (L.faults lib.new) (answer_of result) }
+    ensures shelf { LeavesOutput (S.faults shelf.old) (S.faults shelf.new) (answer_of result) }
 {
     files_without_fault_hold_drawings();
     load_rows(alloc, good, first, rows, lib, drawings)?;
@@ -70,12 +71,12 @@ fn render_sections<K: Film, L: Library, S: Shelf>(
     requires last { to ≤ 9999 }
     requires room { HasRoom good.now drawings.old }
     ensures told { (files : Files) → L.files lib.old ≡ Some files → Holds drawings.old []
-        → (next : Outcome) (seen : Seen)
+        → (next : Outcome) (seen : Contents)
         → Runs (rendering_sections files good.now base.now [] (sections_of from to) next) (λ _. next)
         (with_shelf (with_asked seen (L.asked lib.old)) (S.objects shelf.old))
         (with_shelf (with_asked seen (L.asked lib.new)) (S.objects shelf.new)) result }
-    ensures library { LeavesLibrary (L.files lib.old) (L.files lib.new) (L.faults lib.old) (L.faults lib.new) result }
-    ensures shelf { LeavesOutput (S.faults shelf.old) (S.faults shelf.new) result }
+    ensures library { LeavesLibrary (L.files lib.old) (L.files lib.new) (L.faults lib.old) (L.faults lib.new) (answer_of result) }
+    ensures shelf { LeavesOutput (S.faults shelf.old) (S.faults shelf.new) (answer_of result) }
 {
     let sections = (to - from) / SECTION + 1;
     for section in 0..sections {
@@ -99,12 +100,12 @@ pub(crate) fn render_rows<K: Film, L: Library, S: Shelf>(
     requires film { K.pictures ≡ film_of (L.files lib.old) good.now }
     requires range { from ≤ to }
     requires last { to ≤ 9999 }
-    ensures told { (files : Files) → L.files lib.old ≡ Some files → (next : Outcome) (seen : Seen)
+    ensures told { (files : Files) → L.files lib.old ≡ Some files → (next : Outcome) (seen : Contents)
         → Runs (rendering_sections files good.now base.now [] (sections_of from to) next) (λ _. next)
         (with_shelf (with_asked seen (L.asked lib.old)) (S.objects shelf.old))
         (with_shelf (with_asked seen (L.asked lib.new)) (S.objects shelf.new)) result }
-    ensures library { LeavesLibrary (L.files lib.old) (L.files lib.new) (L.faults lib.old) (L.faults lib.new) result }
-    ensures shelf { LeavesOutput (S.faults shelf.old) (S.faults shelf.new) result }
+    ensures library { LeavesLibrary (L.files lib.old) (L.files lib.new) (L.faults lib.old) (L.faults lib.new) (answer_of result) }
+    ensures shelf { LeavesOutput (S.faults shelf.old) (S.faults shelf.new) (answer_of result) }
 {
     let palettes = palettes(alloc, good)?;
     let mut drawings: Drawings<K> = Drawings::new(alloc, good.drawings(), palettes)?;

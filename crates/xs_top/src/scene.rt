@@ -1,9 +1,9 @@
-ghost use Rattle.std.specs.Prelude.{◌≡◌, Some, Ok, IsErrOf};
+ghost use Rattle.std.specs.Prelude.{◌≡◌, Some, Ok, false};
 ghost use Rattle.xs_check.specs.Passes.{Checking};
 ghost use Rattle.xs_scene.specs.Records.{SceneRecord};
 ghost use Rattle.xs_scene_json.specs.SceneText.{scene_of};
-ghost use Rattle.xs_top.specs.Causes.{IsLost};
-ghost use Rattle.xs_top.specs.Trace.{Outcome, Seen, with_asked};
+ghost use Rattle.xs_top.specs.Causes.{answer_of, is_of_library, is_of_output};
+ghost use Rattle.xs_top.specs.Trace.{Outcome, Contents, with_asked};
 ghost use Rattle.xs_top.specs.Leaves.{LeavesLibrary};
 ghost use Rattle.xs_top.specs.Runs.{Runs};
 ghost use Rattle.xs_top.specs.Scenes.{ReadsScene};
@@ -28,10 +28,10 @@ pub(crate) fn load_scene<L: Library>(
     name: &Name,
 ) -> Result<GoodScene, Status>
     ensures told { (files : Files) → L.files lib.old ≡ Some files → (verdict : Verdict) → IsVerdict files verdict
-        → (next : SceneRecord → Outcome) (seen : Seen) → Runs (loading_scene files verdict name.now next) next
+        → (next : SceneRecord → Outcome) (seen : Contents) → Runs (loading_scene files verdict name.now next) next
         (with_asked seen (L.asked lib.old)) (with_asked seen (L.asked lib.new)) result }
-    ensures library { LeavesLibrary (L.files lib.old) (L.files lib.new) (L.faults lib.old) (L.faults lib.new) result }
-    ensures write { IsErrOf result Status.WriteFault → ⊥ }
+    ensures library { LeavesLibrary (L.files lib.old) (L.files lib.new) (L.faults lib.old) (L.faults lib.new) (answer_of result) }
+    ensures output { is_of_output (answer_of result) ≡ false }
 {
     let absent = refusal(alloc, SceneCode::NoScene);
     let too_long = refusal(alloc, SceneCode::TooLong);
@@ -51,11 +51,10 @@ fn refusal(alloc: Global, code: SceneCode) -> Status
 /// The scene that the bytes of a file say, checked.
 fn read_scene(alloc: Global, bytes: &[u8]) -> Result<GoodScene, Status>
     ensures told { (verdict : Verdict) → ((s : SceneRecord) → scene_of bytes.now ≡ Ok s → Checking s (verdict s))
-        → (next : SceneRecord → Outcome) (seen : Seen)
+        → (next : SceneRecord → Outcome) (seen : Contents)
         → Runs (decoded verdict (scene_of bytes.now) next) next seen seen result }
-    ensures found { IsLost result → ⊥ }
-    ensures read { IsErrOf result Status.ReadFault → ⊥ }
-    ensures write { IsErrOf result Status.WriteFault → ⊥ }
+    ensures library { is_of_library (answer_of result) ≡ false }
+    ensures output { is_of_output (answer_of result) ≡ false }
 {
     checking_finds_one_thing();
     checking_finds_its_codes();

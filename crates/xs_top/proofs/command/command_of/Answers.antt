@@ -1,5 +1,5 @@
 use Rattle.xs_top.proofs.Parts.{did_nothing}
-use Rattle.xs_top.proofs.Commands.{command_obeyed, words_stopped, words_read, words_write}
+use Rattle.xs_top.proofs.Commands.{command_obeyed, words_stopped, words_inside}
 use Rattle.xs_top.proofs.command.command_of.Goals as goal
 
 pub returns-in-Ok-clause-told : goal.returns-in-Ok-clause-told
@@ -14,8 +14,8 @@ pub returns-in-Err-clause-told : goal.returns-in-Err-clause-told
 returns-in-Err-clause-told c = λ files verdict seen.
     words_stopped files verdict _ seen c.in-Err.fault _ (rw c.as_slice.ensures.value at c.in-Err.ensures.reading) c.status_of.ensures
 
-pub returns-in-Err-clause-read : goal.returns-in-Err-clause-read
-returns-in-Err-clause-read c = λ e. words_read c.in-Err.fault _ c.status_of.ensures (cc e)
+pub returns-in-Err-clause-library : goal.returns-in-Err-clause-library
+returns-in-Err-clause-library c = (words_inside c.in-Err.fault _ c.status_of.ensures).0
 
-pub returns-in-Err-clause-write : goal.returns-in-Err-clause-write
-returns-in-Err-clause-write c = λ e. words_write c.in-Err.fault _ c.status_of.ensures (cc e)
+pub returns-in-Err-clause-output : goal.returns-in-Err-clause-output
+returns-in-Err-clause-output c = (words_inside c.in-Err.fault _ c.status_of.ensures).1

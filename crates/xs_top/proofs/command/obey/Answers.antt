@@ -1,9 +1,8 @@
 use Rattle.std.proofs.Common.{inl, sym}
 use Rattle.std.proofs.lemmas.Result.{err_from_is_err_and}
-use Rattle.xs_outside.proofs.Growth.{more-nothing}
-use Rattle.xs_top.specs.Trace.{Seen}
+use Rattle.xs_top.specs.Trace.{Contents}
 use Rattle.xs_top.specs.Outcome.{commanding}
-use Rattle.xs_top.proofs.Parts.{did_nothing}
+use Rattle.xs_top.proofs.Parts.{more-nothing, did_nothing}
 use Rattle.xs_top.proofs.Commands.{show_places_nothing}
 use Rattle.xs_top.proofs.command.obey.Goals as goal
 
@@ -40,7 +39,7 @@ pub returns-in_err-show-in-Show-clause-told : goal.returns-in_err-show-in-Show-c
 unfolding commanding
 returns-in_err-show-in-Show-clause-told g c = λ files e verdict right.
     let p = err_from_is_err_and c.from_residual-in_err-show-in-Show.result c.from_residual-in_err-show-in-Show.ensures.1 in
-    let seen : Seen = record { asked = g.L.Library.asked c.args.lib.now; shelf = g.S.Shelf.objects c.args.shelf.now; notes = g.T.Notes.written c.args.notes.now } in
+    let seen : Contents = record { asked = g.L.Library.asked c.args.lib.now; shelf = g.S.Shelf.objects c.args.shelf.now; notes = g.T.Notes.written c.args.notes.now } in
     rw (p.1, p.2, c.in-Show.is) (c.in_err-show-in-Show.ensures.told files e verdict right seen)
 
 pub returns-in_err-show-in-Show-clause-placed : goal.returns-in_err-show-in-Show-clause-placed
@@ -51,5 +50,5 @@ returns-in_err-show-in-Show-clause-placed g c = λ files e verdict right broken.
 pub returns-in_ok-show-in-Show-clause-told : goal.returns-in_ok-show-in-Show-clause-told
 unfolding commanding
 returns-in_ok-show-in-Show-clause-told g c = λ files e verdict right.
-    let seen : Seen = record { asked = g.L.Library.asked c.args.lib.now; shelf = g.S.Shelf.objects c.args.shelf.now; notes = g.T.Notes.written c.args.notes.now } in
+    let seen : Contents = record { asked = g.L.Library.asked c.args.lib.now; shelf = g.S.Shelf.objects c.args.shelf.now; notes = g.T.Notes.written c.args.notes.now } in
     rw c.in-Show.is (c.in_ok-show-in-Show.ensures.told files e verdict right seen)

@@ -42,7 +42,7 @@ loop-i-preserved g c =
           let then = c.in_ok-place_row.ensures.told pictures told pixels (row_held c.args.drawings.now c.args.good.now i c.args.first c.args.rows within held) (rest c.args.good.now pictures c.args.base.now c.args.first c.args.rows (i + 1) next) seen in
           did_then first (rw (placing_row c.args.good.now pictures c.args.base.now c.args.first c.args.rows i next within) then);
       later = omega (arith, c.in_ok-place_row.ensures.shelf.later, c.loop-i.invariant.later);
-      silent = c.in_ok-place_row.ensures.shelf.silent tt ∙ c.loop-i.invariant.silent;
+      silent = c.in_ok-place_row.ensures.shelf.silent refl ∙ c.loop-i.invariant.silent;
     }
 
 pub returns-clause-told : goal.returns-clause-told

@@ -2,7 +2,7 @@ use Rattle.std.proofs.Common.{◌≡◌, ◌≤◌, ◌+◌, ◌-◌, Some}
 use Rattle.std.specs.List.{range_with_len}
 use Rattle.xs_direct.specs.Pictures.{AreHeld}
 use Rattle.xs_meaning.specs.Drawings.{Pictures, ArePixels}
-use Rattle.xs_top.specs.Trace.{Outcome, Seen, with_shelf}
+use Rattle.xs_top.specs.Trace.{Outcome, Contents, with_shelf}
 use Rattle.xs_top.specs.Runs.{Did}
 use Rattle.xs_top.specs.Levels.{needed}
 use Rattle.xs_top.specs.Outcome.{placing_rows}
@@ -12,7 +12,7 @@ abbrev pub invariant-loop-i : goal.invariant-loop-i
 invariant-loop-i g l =
     record {
       told : (pictures : Pictures) → g.K.Film.pictures ≡ Some pictures → ArePixels pictures
-          → AreHeld l.drawings (needed l.good (range_with_len l.first l.rows)) → (next : Outcome) (seen : Seen)
+          → AreHeld l.drawings (needed l.good (range_with_len l.first l.rows)) → (next : Outcome) (seen : Contents)
           → Did (placing_rows l.good pictures l.base (range_with_len l.first l.rows) next)
           (placing_rows l.good pictures l.base (range_with_len (l.first + l.i) (l.rows - l.i)) next)
           (with_shelf seen (g.S.Shelf.objects l.initial.shelf)) (with_shelf seen (g.S.Shelf.objects l.shelf));

@@ -49,7 +49,7 @@ loop-d-preserved g c =
       room = c.in_ok-load_if_new.ensures.room;
       same = c.in_ok-load_if_new.ensures.library.same ∙ c.loop-d.invariant.same;
       later = omega (arith, c.in_ok-load_if_new.ensures.library.later, c.loop-d.invariant.later);
-      silent = c.in_ok-load_if_new.ensures.library.silent tt ∙ c.loop-d.invariant.silent;
+      silent = c.in_ok-load_if_new.ensures.library.silent refl ∙ c.loop-d.invariant.silent;
     }
 
 pub returns-clause-told : goal.returns-clause-told

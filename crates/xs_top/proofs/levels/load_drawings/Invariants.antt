@@ -1,6 +1,6 @@
 use Rattle.std.proofs.Common.{◌≡◌, ◌≤◌, ℕ, List, ◌++◌, take, drop, Some}
 use Rattle.xs_schematic.specs.Once.{fresh}
-use Rattle.xs_top.specs.Trace.{Outcome, Seen, with_asked}
+use Rattle.xs_top.specs.Trace.{Outcome, Contents, with_asked}
 use Rattle.xs_top.specs.Runs.{Did}
 use Rattle.xs_top.specs.Told.{Files}
 use Rattle.xs_top.specs.Levels.{HasRoom, Holds}
@@ -11,7 +11,7 @@ abbrev pub invariant-loop-d : goal.invariant-loop-d
 invariant-loop-d g l =
     record {
       told : (files : Files) → g.L.Library.files l.initial.lib ≡ Some files → (known : List ℕ) → Holds l.initial.drawings known
-          → (next : Outcome) (seen : Seen)
+          → (next : Outcome) (seen : Contents)
           → Did (loading files l.good (fresh known l.numbers) next)
           (loading files l.good (fresh (known ++ take l.d-index l.numbers) (drop l.d-index l.numbers)) next)
           (with_asked seen (g.L.Library.asked l.initial.lib)) (with_asked seen (g.L.Library.asked l.lib));

@@ -1,7 +1,6 @@
 use Rattle.std.proofs.lemmas.Result.{err_from_is_err_and}
 use Rattle.xs_meaning.specs.Expressions.{drawings_of, root_of}
 use Rattle.xs_top.proofs.Parts.{did_nothing}
-use Rattle.xs_top.proofs.Listings.{fresh_once}
 use Rattle.xs_top.proofs.Drawn.{holds_once}
 use Rattle.xs_top.proofs.levels.load_row.Goals as goal
 
@@ -13,12 +12,12 @@ returns-in_err-numbers-clause-told g c = λ files e known holds next seen.
 pub returns-in_err-load_drawings-clause-told : goal.returns-in_err-load_drawings-clause-told
 returns-in_err-load_drawings-clause-told g c = λ files e known holds next seen.
     let p = err_from_is_err_and c.from_residual-in_err-load_drawings.result c.from_residual-in_err-load_drawings.ensures.1 in
-    let loaded = rw (c.as_slice.ensures.value, c.in_ok-numbers.ensures.value, fresh_once known (drawings_of (root_of c.args.good.now c.args.row))) at (c.in_err-load_drawings.ensures.told files e known holds next seen) in
+    let loaded = rw (c.as_slice.ensures.value, c.in_ok-numbers.ensures.value, c.each_number_is_taken_once.ensures.once_is_enough known (drawings_of (root_of c.args.good.now c.args.row))) at (c.in_err-load_drawings.ensures.told files e known holds next seen) in
     rw (p.1, p.2) loaded
 
 pub returns-clause-told : goal.returns-clause-told
 returns-clause-told g c = λ files e known holds next seen.
-    rw (c.as_slice.ensures.value, c.in_ok-numbers.ensures.value, fresh_once known (drawings_of (root_of c.args.good.now c.args.row))) at (c.in_ok-load_drawings.ensures.told files e known holds next seen)
+    rw (c.as_slice.ensures.value, c.in_ok-numbers.ensures.value, c.each_number_is_taken_once.ensures.once_is_enough known (drawings_of (root_of c.args.good.now c.args.row))) at (c.in_ok-load_drawings.ensures.told files e known holds next seen)
 
 pub returns-clause-held : goal.returns-clause-held
 returns-clause-held g c = λ known holds.

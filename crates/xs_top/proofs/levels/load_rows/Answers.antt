@@ -53,7 +53,7 @@ loop-i-preserved g c =
       room = c.in_ok-load_row.ensures.room;
       same = c.in_ok-load_row.ensures.library.same ∙ c.loop-i.invariant.same;
       later = omega (arith, c.in_ok-load_row.ensures.library.later, c.loop-i.invariant.later);
-      silent = c.in_ok-load_row.ensures.library.silent tt ∙ c.loop-i.invariant.silent;
+      silent = c.in_ok-load_row.ensures.library.silent refl ∙ c.loop-i.invariant.silent;
     }
 
 pub returns-clause-told : goal.returns-clause-told

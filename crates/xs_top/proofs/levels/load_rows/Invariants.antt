@@ -1,7 +1,7 @@
 use Rattle.std.proofs.Common.{◌≡◌, ◌≤◌, ◌+◌, ◌-◌, ℕ, List, ◌++◌, Some}
 use Rattle.std.specs.List.{range_with_len}
 use Rattle.xs_schematic.specs.Once.{fresh}
-use Rattle.xs_top.specs.Trace.{Outcome, Seen, with_asked}
+use Rattle.xs_top.specs.Trace.{Outcome, Contents, with_asked}
 use Rattle.xs_top.specs.Runs.{Did}
 use Rattle.xs_top.specs.Told.{Files}
 use Rattle.xs_top.specs.Levels.{HasRoom, Holds, needed}
@@ -12,7 +12,7 @@ abbrev pub invariant-loop-i : goal.invariant-loop-i
 invariant-loop-i g l =
     record {
       told : (files : Files) → g.L.Library.files l.initial.lib ≡ Some files → (known : List ℕ) → Holds l.initial.drawings known
-          → (next : Outcome) (seen : Seen)
+          → (next : Outcome) (seen : Contents)
           → Did (loading files l.good (fresh known (needed l.good (range_with_len l.first l.rows))) next)
           (loading files l.good (fresh (known ++ needed l.good (range_with_len l.first l.i)) (needed l.good (range_with_len (l.first + l.i) (l.rows - l.i)))) next)
           (with_asked seen (g.L.Library.asked l.initial.lib)) (with_asked seen (g.L.Library.asked l.lib));

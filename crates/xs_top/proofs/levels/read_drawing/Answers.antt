@@ -23,8 +23,6 @@ returns-in-Err-Memory-clause-told c = λ next seen. (_, did_nothing _ _)
 pub returns-in-Err-Memory-clause-bytes : goal.returns-in-Err-Memory-clause-bytes
 returns-in-Err-Memory-clause-bytes c = are_bytes_from _ c.type_inv.bytes
 
-pub returns-in-Err-Code-clause-found : goal.returns-in-Err-Code-clause-found
-returns-in-Err-Code-clause-found c = λ lost.
-    let fault = rw c.in-Err-Code.field-0-is at c.in-Err-Code.ensures.fault in
-    let kept = level_kept c.args.kind c.args.bytes.now c.in-Err-Code.code fault in
-    cc
+pub returns-in-Err-Code-clause-library : goal.returns-in-Err-Code-clause-library
+returns-in-Err-Code-clause-library c =
+    level_kept c.args.kind c.args.bytes.now c.in-Err-Code.code (rw c.in-Err-Code.field-0-is at c.in-Err-Code.ensures.fault)

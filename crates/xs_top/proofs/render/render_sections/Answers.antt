@@ -54,9 +54,9 @@ loop-section-preserved g c =
       room = c.in_ok-render_section.ensures.room;
       same = c.in_ok-render_section.ensures.library.same ∙ c.loop-section.invariant.same;
       later = omega (arith, c.in_ok-render_section.ensures.library.later, c.loop-section.invariant.later);
-      silent = c.in_ok-render_section.ensures.library.silent tt ∙ c.loop-section.invariant.silent;
+      silent = c.in_ok-render_section.ensures.library.silent refl ∙ c.loop-section.invariant.silent;
       later_shelf = omega (arith, c.in_ok-render_section.ensures.shelf.later, c.loop-section.invariant.later_shelf);
-      silent_shelf = c.in_ok-render_section.ensures.shelf.silent tt ∙ c.loop-section.invariant.silent_shelf;
+      silent_shelf = c.in_ok-render_section.ensures.shelf.silent refl ∙ c.loop-section.invariant.silent_shelf;
     }
 
 pub returns-clause-told : goal.returns-clause-told

@@ -1,6 +1,6 @@
 use Rattle.std.proofs.Common.{◌≡◌, ◌≤◌, ◌+◌, ◌-◌, [], map, Some}
 use Rattle.std.specs.List.{range_with_len}
-use Rattle.xs_top.specs.Trace.{Outcome, Seen, with_asked, with_shelf}
+use Rattle.xs_top.specs.Trace.{Outcome, Contents, with_asked, with_shelf}
 use Rattle.xs_top.specs.Runs.{Did}
 use Rattle.xs_top.specs.Told.{Files}
 use Rattle.xs_top.specs.Levels.{HasRoom, Holds, needed}
@@ -12,7 +12,7 @@ abbrev pub invariant-loop-section : goal.invariant-loop-section
 invariant-loop-section g l =
     record {
       told : (files : Files) → g.L.Library.files l.initial.lib ≡ Some files → Holds l.initial.drawings []
-          → (next : Outcome) (seen : Seen)
+          → (next : Outcome) (seen : Contents)
           → Did (rendering_sections files l.good l.base [] (sections_of l.from l.to) next)
           (rendering_sections files l.good l.base (rows_before l.from l.to l.section) (map (section_rows l.from l.to) (range_with_len (0 + l.section) (l.sections - l.section))) next)
           (with_shelf (with_asked seen (g.L.Library.asked l.initial.lib)) (g.S.Shelf.objects l.initial.shelf))
