@@ -1,6 +1,9 @@
 use serde_json::Value;
 use std::test::Fail;
-use xs_json::{Field, Path, Place, SceneCode, flag, list, object, optional, required, text, whole};
+use xs_json::{
+    Field, FieldFault, Path, Place, SceneCode, all_there, fault_at, flag, list, object, optional,
+    required, text, whole,
+};
 
 #[test]
 fn paths_are_printed(rt: HostRuntime) -> Result<(), Fail> {
@@ -40,6 +43,28 @@ fn fields_are_read(rt: HostRuntime) -> Result<(), Fail> {
         .ok()
         .ok_or("the field is there")?;
     assert!(rt; list(alloc, cells, &root).is_ok_and(|cells| cells.len() == 2));
+    Ok(())
+}
+
+#[test]
+fn faults_are_told_at_their_place(rt: HostRuntime) -> Result<(), Fail> {
+    let alloc = rt.alloc();
+    let root = Path::root(alloc);
+    let scene = Value::from_str(alloc, r#"{"w":1}"#)
+        .ok()
+        .ok_or("the text is JSON")?;
+    let map = scene.as_object().ok_or("the value is an object")?;
+    assert!(rt; all_there(alloc, map, &root, &[Field::W]).is_ok());
+    let faults = [
+        (all_there(alloc, map, &root, &[Field::H]).err(), 3, "/h"),
+        (Some(fault_at(alloc, SceneCode::WrongKind, &root)), 4, ""),
+    ];
+    for (fault, number, path) in &faults {
+        let Some(FieldFault::Fault(fault)) = fault else {
+            return Err(Fail::from("this is no fault"));
+        };
+        assert_eq!(rt; (fault.code.number(), fault.path.text()), (*number, *path));
+    }
     Ok(())
 }
 
