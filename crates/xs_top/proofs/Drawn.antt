@@ -32,7 +32,7 @@ use Rattle.std.specs.List.{range_with_len}
 use Rattle.xs_meaning.specs.Expressions.{drawings_of, root_of}
 use Rattle.xs_top.specs.Levels.{needed}
 use Rattle.xs_top.proofs.RowRanges.{needed_next, needed_more, range_over}
-use Rattle.xs_top.proofs.Listings.{listed-append, fresh_known, fresh_new, fresh_none, fresh-append, once_same}
+use Rattle.xs_top.proofs.Listings.{AllKnown, TakenOnce, listed-append, fresh_listed}
 
 -- ---- the file and the kind of a drawing
 
@@ -154,13 +154,12 @@ unfolding loading
 loading_first files s d ds next = refl
 
 pub loading_known : (files : Files) (s : SceneRecord) (known : List ℕ) (d : ℕ) (next : Outcome) → is_listed known d ≡ true → loading files s (fresh known (d ∷ [])) next ≡ next
-loading_known files s known d next e =
-    ap (λ ds. loading files s ds next) (fresh_known known [] d e ∙ fresh_none known) ∙ loading_none files s next
+unfolding fresh loading
+loading_known files s known d next e = rw e refl
 
 pub loading_new : (files : Files) (s : SceneRecord) (known : List ℕ) (d : ℕ) (next : Outcome) → is_listed known d ≡ false → loading files s (fresh known (d ∷ [])) next ≡ loading_drawing files s d next
-loading_new files s known d next e =
-    ap (λ ds. loading files s ds next) (fresh_new known [] d e ∙ ap (λ ds. d ∷ ds) (fresh_none _))
-    ∙ (loading_first files s d [] next ∙ ap (loading_drawing files s d) (loading_none files s next))
+unfolding fresh loading
+loading_new files s known d next e = rw e refl
 
 -- ---- drawings one after another
 
@@ -169,23 +168,23 @@ unfolding loading
 loading-append files s [] es next = refl
 loading-append files s (d ∷ ds) es next = ap (loading_drawing files s d) (loading-append files s ds es next)
 
-pub loading_parts : (files : Files) (s : SceneRecord) (known ds es : List ℕ) (next : Outcome) → loading files s (fresh known (ds ++ es)) next ≡ loading files s (fresh known ds) (loading files s (fresh (known ++ ds) es) next)
-loading_parts files s known ds es next =
-    ap (λ l. loading files s l next) (fresh-append known ds es) ∙ loading-append files s (fresh known ds) (fresh (known ++ ds) es) next
+loading_parts : AllKnown → (files : Files) (s : SceneRecord) (known ds es : List ℕ) (next : Outcome) → loading files s (fresh known (ds ++ es)) next ≡ loading files s (fresh known ds) (loading files s (fresh (known ++ ds) es) next)
+loading_parts all files s known ds es next =
+    ap (λ l. loading files s l next) (all known ds es) ∙ loading-append files s (fresh known ds) (fresh (known ++ ds) es) next
 
 -- the drawing at a place of a list, and then those behind it
-pub loading_step : (files : Files) (s : SceneRecord) (known ds : List ℕ) (i : ℕ) (next : Outcome) → i < length ds
+pub loading_step : AllKnown → (files : Files) (s : SceneRecord) (known ds : List ℕ) (i : ℕ) (next : Outcome) → i < length ds
     → loading files s (fresh (known ++ take i ds) (drop i ds)) next
     ≡ loading files s (fresh (known ++ take i ds) (get_or ds i 0 ∷ [])) (loading files s (fresh (known ++ take (i + 1) ds) (drop (i + 1) ds)) next)
-loading_step files s known ds i next within =
+loading_step all files s known ds i next within =
     ap (λ l. loading files s (fresh (known ++ take i ds) l) next) (drop_more ds i 0 within)
-    ∙ (loading_parts files s (known ++ take i ds) (get_or ds i 0 ∷ []) (drop (i + 1) ds) next
+    ∙ (loading_parts all files s (known ++ take i ds) (get_or ds i 0 ∷ []) (drop (i + 1) ds) next
     ∙ ap (λ l. loading files s (fresh (known ++ take i ds) (get_or ds i 0 ∷ [])) (loading files s (fresh l (drop (i + 1) ds)) next))
     (append_assoc known (take i ds) (get_or ds i 0 ∷ []) ∙ ap (λ l. known ++ l) (sym (take_more ds i 0 within))))
 
 pub loading_end : (files : Files) (s : SceneRecord) (known ds : List ℕ) (i : ℕ) (next : Outcome) → length ds ≤ i → loading files s (fresh known (drop i ds)) next ≡ next
-loading_end files s known ds i next past =
-    ap (λ l. loading files s (fresh known l) next) (drop_all i ds past) ∙ (ap (λ l. loading files s l next) (fresh_none known) ∙ loading_none files s next)
+unfolding fresh loading
+loading_end files s known ds i next past = ap (λ l. loading files s (fresh known l) next) (drop_all i ds past)
 
 pub holds_step : (h : Held) (known ds : List ℕ) (i : ℕ) → i < length ds → Holds h ((known ++ take i ds) ++ get_or ds i 0 ∷ []) → Holds h (known ++ take (i + 1) ds)
 holds_step h known ds i within holds d =
@@ -194,26 +193,27 @@ holds_step h known ds i within holds d =
 pub holds_end : (h : Held) (known ds : List ℕ) (i : ℕ) → length ds ≤ i → Holds h (known ++ take i ds) → Holds h (known ++ ds)
 holds_end h known ds i past holds d = holds d ∙ ap (λ l. is_listed (known ++ l) d) (take_all i ds past)
 
-pub holds_once : (h : Held) (known ds : List ℕ) → Holds h (known ++ each_once ds) → Holds h (known ++ ds)
-holds_once h known ds holds d = holds d ∙ (once_same known ds).at d
+pub holds_once : TakenOnce → (h : Held) (known ds : List ℕ) → Holds h (known ++ each_once ds) → Holds h (known ++ ds)
+holds_once once h known ds holds d =
+    holds d ∙ (listed-append known (each_once ds) d ∙ (ap (λ t. is_listed known d || t) (fresh_listed once [] ds d) ∙ sym (listed-append known ds d)))
 
 -- ---- the drawings of rows
 
 -- the drawings of a row, and then those of the rows behind it
-pub loading_row : (files : Files) (s : SceneRecord) (known : List ℕ) (first rows i : ℕ) (next : Outcome) → i < rows
+pub loading_row : AllKnown → (files : Files) (s : SceneRecord) (known : List ℕ) (first rows i : ℕ) (next : Outcome) → i < rows
     → loading files s (fresh (known ++ needed s (range_with_len first i)) (needed s (range_with_len (first + i) (rows - i)))) next
     ≡ loading files s (fresh (known ++ needed s (range_with_len first i)) (drawings_of (root_of s (first + i))))
     (loading files s (fresh (known ++ needed s (range_with_len first (i + 1))) (needed s (range_with_len (first + (i + 1)) (rows - (i + 1))))) next)
-loading_row files s known first rows i next within =
+loading_row all files s known first rows i next within =
     ap (λ l. loading files s (fresh (known ++ needed s (range_with_len first i)) l) next) (needed_next s first rows i within)
-    ∙ (loading_parts files s (known ++ needed s (range_with_len first i)) (drawings_of (root_of s (first + i))) _ next
+    ∙ (loading_parts all files s (known ++ needed s (range_with_len first i)) (drawings_of (root_of s (first + i))) _ next
     ∙ ap (λ l. loading files s (fresh (known ++ needed s (range_with_len first i)) (drawings_of (root_of s (first + i)))) (loading files s (fresh l (needed s (range_with_len (first + (i + 1)) (rows - (i + 1))))) next))
     (append_assoc known _ _ ∙ ap (λ l. known ++ l) (sym (needed_more s first i))))
 
 pub loading_over : (files : Files) (s : SceneRecord) (known : List ℕ) (first rows i : ℕ) (next : Outcome) → rows ≤ i → loading files s (fresh known (needed s (range_with_len (first + i) (rows - i)))) next ≡ next
+unfolding fresh loading
 loading_over files s known first rows i next past =
     ap (λ l. loading files s (fresh known (needed s l)) next) (range_over first rows i past)
-    ∙ (ap (λ l. loading files s l next) (fresh_none known) ∙ loading_none files s next)
 
 pub holds_row : (h : Held) (s : SceneRecord) (known : List ℕ) (first i : ℕ) → Holds h ((known ++ needed s (range_with_len first i)) ++ drawings_of (root_of s (first + i))) → Holds h (known ++ needed s (range_with_len first (i + 1)))
 holds_row h s known first i holds d =
