@@ -1,10 +1,10 @@
 -- Files of drawings, the pictures that they show, and what is held of them.
-use Rattle.std.proofs.Common.{◌≡◌, ℕ, zero, suc, ◌+◌, ◌-◌, ◌<◌, ◌≤◌, take, drop, append_assoc, ◌||◌, ◌==◌, Bool, true, false, List, [], ◌∷◌, ◌++◌, length, get_or, map, nat_lt, slice_get, slice_set, slice_index_or, Option, Some, None, is_some, IsNone, ◌↔◌, option_map, option_and_then, Fits, w8, refl, sym, ap, ◌∙◌, arith}
+use Rattle.std.proofs.Common.{◌≡◌, ℕ, zero, suc, ◌+◌, ◌-◌, ◌<◌, ◌≤◌, take, drop, append_assoc, ◌||◌, ◌==◌, Bool, true, false, List, [], ◌∷◌, ◌++◌, length, get_or, map, nat_lt, slice_get, slice_set, slice_index_or, Option, Some, None, is_some, IsNone, ◌↔◌, option_map, option_and_then, unwrap_or, Fits, w8, refl, sym, ap, ◌∙◌, arith}
 use Rattle.std.proofs.Math.Bool.{or-true, or-false}
 use Rattle.std.proofs.lemmas.Bool.Decides.{nat_tests}
-use Rattle.std.proofs.lemmas.Option.{get_or_from_slice_get}
+use Rattle.std.proofs.lemmas.Option.{get_or_from_slice_get, unwrap_or-slice_get}
 use Rattle.std.proofs.Math.ListN.{length-set}
-use Rattle.std.proofs.lemmas.List.{take_more, drop_more, drop_all, take_all}
+use Rattle.std.proofs.lemmas.List.{take_more, drop_more, drop_all, take_all, get_or-set_same, get_or-set_other}
 use Rattle.xs_pixel.specs.Channels.{Channels}
 use Rattle.xs_cm32.specs.Word.{colour_under}
 use Rattle.xs_cm32.specs.Rows.{words}
@@ -92,27 +92,22 @@ filmed files s palettes d kind g pictures film is shown read =
 
 -- ---- what is held
 
+flat : {X : Type 0} (o : Option (Option X)) → option_and_then (λ slot. slot) o ≡ unwrap_or o None
+flat None = refl
+flat (Some slot) = refl
+
+slot_is : (h : Held) (d : ℕ) → slot_in h d ≡ get_or h.slots d None
+slot_is h d = flat (slice_get h.slots d) ∙ unwrap_or-slice_get h.slots d None
+
 module _ (x : Raw × Option ℕ) where
-  slot_here : (slots : List (Option (Raw × Option ℕ))) (d : ℕ) → d < length slots → slice_get (slice_set slots d (Some x)) d ≡ Some (Some x)
-  slot_here [] d within = absurd (omega arith)
-  slot_here (slot ∷ slots) zero within = refl
-  slot_here (slot ∷ slots) (suc d) within = slot_here slots d (omega arith)
-
-  slot_there : (slots : List (Option (Raw × Option ℕ))) (d e : ℕ) → (d ≡ e → ⊥) → slice_get (slice_set slots d (Some x)) e ≡ slice_get slots e
-  slot_there [] d e other = refl
-  slot_there (slot ∷ slots) zero zero other = absurd (other refl)
-  slot_there (slot ∷ slots) zero (suc e) other = refl
-  slot_there (slot ∷ slots) (suc d) zero other = refl
-  slot_there (slot ∷ slots) (suc d) (suc e) other = slot_there slots d e (λ same. other (omega arith))
-
   -- the new drawing, and those that were held
   held_at : (h : Held) (d e : ℕ) (t : Bool) → (d == e) ≡ t → d < length h.slots → is_some (slot_in (held (slice_set h.slots d (Some x)) h.palettes) e) ≡ (is_some (slot_in h e) || t)
   held_at h d e true same within =
       let here : d ≡ e = grind (arith, nat_tests) in
-      rw (← here) (ap (λ o. is_some (option_and_then (λ slot. slot) o)) (slot_here h.slots d within) ∙ sym (or-true _))
+      rw (← here) (ap is_some (slot_is (held (slice_set h.slots d (Some x)) h.palettes) d ∙ get_or-set_same h.slots d (Some x) None within) ∙ sym (or-true _))
   held_at h d e false other within =
-      let apart : d ≡ e → ⊥ = grind (arith, nat_tests) in
-      ap (λ o. is_some (option_and_then (λ slot. slot) o)) (slot_there h.slots d e apart) ∙ sym (or-false _)
+      let apart : e ≡ d → ⊥ = grind (arith, nat_tests) in
+      ap is_some (slot_is (held (slice_set h.slots d (Some x)) h.palettes) e ∙ (get_or-set_other h.slots d e (Some x) None apart ∙ sym (slot_is h e))) ∙ sym (or-false _)
 
   pub holds_one : (h : Held) (known : List ℕ) (d : ℕ) → d < length h.slots → Holds h known → Holds (held (slice_set h.slots d (Some x)) h.palettes) (known ++ d ∷ [])
   holds_one h known d within holds e =

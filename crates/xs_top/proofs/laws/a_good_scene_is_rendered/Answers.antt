@@ -4,8 +4,6 @@ use Rattle.xs_top.proofs.laws.a_good_scene_is_rendered.Goals as goal
 
 pub returns : goal.returns
 returns c =
-    let once : TakenOnce = record {
-      all = c.each_number_is_taken_once.ensures.all_of_the_first_known;
-      new = c.each_number_is_taken_once.ensures.one_after_another;
-    } in
+    let law = c.each_number_is_taken_once.ensures in
+    let once : TakenOnce = record { all = law.all_of_the_first_known; new = law.one_after_another } in
     record { ends = rendered_ends once; asked = rendered_asks once; frames = rendered_puts once; noted = rendered_lines once }

@@ -23,8 +23,6 @@ returns-clause-told g c = λ files e known holds next seen.
 pub returns-clause-held : goal.returns-clause-held
 returns-clause-held g c = λ known holds.
     let held = rw (c.as_slice.ensures.value, c.in_ok-numbers.ensures.value) at (c.in_ok-load_drawings.ensures.held known holds) in
-    let once : TakenOnce = record {
-      all = c.each_number_is_taken_once.ensures.all_of_the_first_known;
-      new = c.each_number_is_taken_once.ensures.one_after_another;
-    } in
+    let law = c.each_number_is_taken_once.ensures in
+    let once : TakenOnce = record { all = law.all_of_the_first_known; new = law.one_after_another } in
     holds_once once c.load_drawings.new.drawings known (drawings_of (root_of c.args.good.now c.args.row)) held
