@@ -1,5 +1,5 @@
 -- Files of drawings, the pictures that they show, and what is held of them.
-use Rattle.std.proofs.Common.{◌≡◌, ℕ, zero, suc, ◌+◌, ◌-◌, ◌<◌, ◌≤◌, take, drop, append_assoc, ◌||◌, ◌==◌, Bool, true, false, List, [], ◌∷◌, ◌++◌, length, get_or, map, nat_lt, slice_get, slice_set, slice_index_or, Option, Some, None, is_some, IsNone, ◌↔◌, option_map, option_and_then, unwrap_or, Fits, w8, refl, sym, ap, ◌∙◌, arith}
+use Rattle.std.proofs.Common.{◌≡◌, ℕ, suc, ◌+◌, ◌-◌, ◌<◌, ◌≤◌, take, drop, append_assoc, ◌||◌, ◌==◌, Bool, true, false, List, [], ◌∷◌, ◌++◌, length, get_or, map, nat_lt, slice_get, slice_set, slice_index_or, Option, Some, None, is_some, IsNone, ◌↔◌, option_map, option_and_then, unwrap_or, Fits, w8, refl, sym, ap, ◌∙◌, arith}
 use Rattle.std.proofs.Math.Bool.{or-true, or-false}
 use Rattle.std.proofs.lemmas.Bool.Decides.{nat_tests}
 use Rattle.std.proofs.lemmas.Option.{get_or_from_slice_get, unwrap_or-slice_get}
@@ -69,13 +69,13 @@ same_colours palettes others raw_kind.Colour bytes palette same = refl
 same_colours palettes others raw_kind.Cm32 bytes (Some p) same = ap (λ styles. map (colour_under styles) (words bytes)) (same p)
 same_colours palettes others raw_kind.Cm32 bytes None same = refl
 
-pub same_picture : (s : SceneRecord) (palettes : List (List Channels)) (g : Raw) (palette : Option ℕ) → AreShown palettes s → picture_of (palettes_of s) g palette ≡ picture_of palettes g palette
+same_picture : (s : SceneRecord) (palettes : List (List Channels)) (g : Raw) (palette : Option ℕ) → AreShown palettes s → picture_of (palettes_of s) g palette ≡ picture_of palettes g palette
 same_picture s palettes g palette shown =
     ap (λ colours. record { x0 = g.x0; y0 = g.y0; w = g.w; h = g.h; content = content_of g.kind g.bytes; coloured = colours })
     (sym (same_colours palettes (palettes_of s) g.kind g.bytes palette shown))
 
 -- the picture of a drawing whose file was read
-pub picture_is : (files : Files) (s : SceneRecord) (d : ℕ) (g : Raw) → IsFileOf files s d g → pictures_of files s d ≡ Some (picture_of (palettes_of s) g (palette_of (kind_of s d)))
+picture_is : (files : Files) (s : SceneRecord) (d : ℕ) (g : Raw) → IsFileOf files s d g → pictures_of files s d ≡ Some (picture_of (palettes_of s) g (palette_of (kind_of s d)))
 unfolding pictures_of
 picture_is files s d g file = rw (file.there, file.numbers, file.accepted, file.drawing) refl
 
@@ -158,7 +158,7 @@ loading_new files s known d next e = rw e refl
 
 -- ---- drawings one after another
 
-pub loading-append : (files : Files) (s : SceneRecord) (ds es : List ℕ) (next : Outcome) → loading files s (ds ++ es) next ≡ loading files s ds (loading files s es next)
+loading-append : (files : Files) (s : SceneRecord) (ds es : List ℕ) (next : Outcome) → loading files s (ds ++ es) next ≡ loading files s ds (loading files s es next)
 unfolding loading
 loading-append files s [] es next = refl
 loading-append files s (d ∷ ds) es next = ap (loading_drawing files s d) (loading-append files s ds es next)

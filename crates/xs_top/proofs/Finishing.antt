@@ -41,7 +41,7 @@ rows_up_to from to (suc i) ordered within =
     ∙ (ap (λ rows. rows ++ section_rows from to i) (rows_up_to from to i ordered (omega arith) ∙ ap (range_with_len from) whole)
     ∙ (range-append from (8 * i) (min (to + 1 - (from + 8 * i)) 8) ∙ ap (range_with_len from) count)))
 
-pub all_rows : (from to : ℕ) → from ≤ to → rows_before from to (sections_in from to) ≡ rows_of from to
+all_rows : (from to : ℕ) → from ≤ to → rows_before from to (sections_in from to) ≡ rows_of from to
 all_rows from to ordered =
     let all : min (8 * sections_in from to) (to + 1 - from) ≡ to + 1 - from = omega arith in
     rows_up_to from to (sections_in from to) ordered (omega arith) ∙ ap (range_with_len from) all
