@@ -1,5 +1,6 @@
 -- A render that ends well met no fault.
-use Rattle.std.proofs.Common.{◌≡◌, ℕ, ◌+◌, ◌-◌, ◌≤◌, Bool, true, false, ◌||◌, ◌==◌, List, [], ◌∷◌, ◌++◌, length, nat_le, if◌then◌else◌, Option, Some, None, refl, sym, ap, ◌∙◌, subst, append_assoc, arith, ◌⊎◌, inl, inr}
+use Rattle.std.proofs.Common.{◌≡◌, ℕ, ◌+◌, ◌-◌, ◌≤◌, Bool, true, false, ◌||◌, ◌==◌, List, [], ◌∷◌, ◌++◌, length, nat_le, if◌then◌else◌, Option, Some, None, refl, sym, ap, ◌∙◌, subst, append_assoc, arith, inl, inr}
+use Rattle.std.proofs.lemmas.Bool.{or_cases}
 use Rattle.std.proofs.lemmas.Bool.Decides.{nat_tests}
 use Rattle.std.proofs.lemmas.List.{append-nil}
 use Rattle.xs_json.specs.declared.fault.SceneFault.{SceneFault}
@@ -17,7 +18,7 @@ use Rattle.xs_top.specs.Levels.{file_of, kind_of, raw_kind_of, needed, pictures_
 use Rattle.xs_top.specs.Rows.{rows_of, sections_of}
 use Rattle.xs_top.specs.Finished.{Says, IsAccepted, AreAccepted}
 use Rattle.xs_top.specs.Outcome.{found, asking, checked, accepted, loading_drawing, loading, placing_rows, rendering_sections, closing, rendering_scene, rendering}
-use Rattle.xs_top.proofs.Listings.{listed-append, fresh_listed}
+use Rattle.xs_top.proofs.Listings.{TakenOnce, listed-append, fresh_listed}
 use Rattle.xs_top.proofs.Drawn.{loading_none, loading_first}
 use Rattle.xs_top.proofs.Sections.{section_is, sections_first}
 use Rattle.xs_top.proofs.Finishing.{scene_through, placing_through, joined, joined_sections, needed-append}
@@ -58,38 +59,34 @@ loading_ends files s (d ∷ ds) next ends =
     let rest = loading_ends files s ds next first.1 in
     (λ e listed. first_or_rest files s d e ds (d == e) refl first.0 (rest.0 e) listed, rest.1)
 
-either_listed : (a b : Bool) → (a || b) ≡ true → (a ≡ true) ⊎ (b ≡ true)
-either_listed true b e = inl refl
-either_listed false b e = inr e
-
 -- ---- rows and sections
 
-rows_accepted : (files : Files) (s : SceneRecord) (earlier rows : List ℕ) → AreAccepted files s earlier → ((e : ℕ) → is_listed (fresh (needed s earlier) (needed s rows)) e ≡ true → IsAccepted files s e) → AreAccepted files s (earlier ++ rows)
-rows_accepted files s earlier rows before new d listed =
+rows_accepted : TakenOnce → (files : Files) (s : SceneRecord) (earlier rows : List ℕ) → AreAccepted files s earlier → ((e : ℕ) → is_listed (fresh (needed s earlier) (needed s rows)) e ≡ true → IsAccepted files s e) → AreAccepted files s (earlier ++ rows)
+rows_accepted once files s earlier rows before new d listed =
     let first = needed s earlier in
     let either : (is_listed first d || is_listed (fresh first (needed s rows)) d) ≡ true =
     sym (listed-append first (fresh first (needed s rows)) d)
-    ∙ (fresh_listed first (needed s rows) d ∙ (ap (λ l. is_listed l d) (sym (needed-append s earlier rows)) ∙ listed)) in
-    elim (either_listed _ _ either) [ inl there ↦ before d there | inr there ↦ new d there ]
+    ∙ (fresh_listed once first (needed s rows) d ∙ (ap (λ l. is_listed l d) (sym (needed-append s earlier rows)) ∙ listed)) in
+    elim (or_cases _ _ either) [ inl there ↦ before d there | inr there ↦ new d there ]
 
 placing_status : (files : Files) (s : SceneRecord) (base rows : List ℕ) (next : Outcome) → (placing_rows s (pictures_of files s) base rows next).status ≡ next.status
 placing_status files s base rows next = ap (λ o. o.status) (placing_through s (pictures_of files s) base rows next)
 
-sections_end : (files : Files) (s : SceneRecord) (base : List ℕ) (sections : List (List ℕ)) (earlier : List ℕ) (next : Outcome) → AreAccepted files s earlier → (rendering_sections files s base earlier sections next).status ≡ answers.Ok → AreAccepted files s (earlier ++ joined sections)
-sections_end files s base [] earlier next before ends = rw append-nil before
-sections_end files s base (rows ∷ sections) earlier next before ends =
+sections_end : TakenOnce → (files : Files) (s : SceneRecord) (base : List ℕ) (sections : List (List ℕ)) (earlier : List ℕ) (next : Outcome) → AreAccepted files s earlier → (rendering_sections files s base earlier sections next).status ≡ answers.Ok → AreAccepted files s (earlier ++ joined sections)
+sections_end once files s base [] earlier next before ends = rw append-nil before
+sections_end once files s base (rows ∷ sections) earlier next before ends =
     let rest = rendering_sections files s base (earlier ++ rows) sections next in
     let first = loading_ends files s (fresh (needed s earlier) (needed s rows)) (placing_rows s (pictures_of files s) base rows rest)
     (ap (λ o. o.status) (sym (sections_first files s base earlier rows sections next ∙ section_is files s base earlier rows rest)) ∙ ends) in
-    rw (← append_assoc) (sections_end files s base sections (earlier ++ rows) next (rows_accepted files s earlier rows before first.0) (sym (placing_status files s base rows rest) ∙ first.1))
+    rw (← append_assoc) (sections_end once files s base sections (earlier ++ rows) next (rows_accepted once files s earlier rows before first.0) (sym (placing_status files s base rows rest) ∙ first.1))
 
 checked_ends : (fault : Option SceneFault) (next : Outcome) → (checked fault next).status ≡ answers.Ok → next.status ≡ answers.Ok
 checked_ends None next ends = ends
 checked_ends (Some fault) next ends = absurd cc
 
-pub rendered_accepted : (files : Files) (verdict : Verdict) (name base : List ℕ) (s : SceneRecord) (from to : ℕ) → from ≤ to → Says files name s → (rendering files verdict name from to base).status ≡ answers.Ok → AreAccepted files s (rows_of from to)
+pub rendered_accepted : TakenOnce → (files : Files) (verdict : Verdict) (name base : List ℕ) (s : SceneRecord) (from to : ℕ) → from ≤ to → Says files name s → (rendering files verdict name from to base).status ≡ answers.Ok → AreAccepted files s (rows_of from to)
 unfolding rendering
-rendered_accepted files verdict name base s from to ordered says ends =
+rendered_accepted once files verdict name base s from to ordered says ends =
     let scene = scene_through files verdict name s (rendering_scene files from to base) says in
     let through = checked_ends (verdict s) (rendering_scene files from to base s) (ap (λ o. o.status) (sym scene) ∙ ends) in
-    rw (← joined_sections from to ordered) (sections_end files s base (sections_of from to) [] (closing (to + 1 - from)) (λ d listed. absurd cc) through)
+    rw (← joined_sections from to ordered) (sections_end once files s base (sections_of from to) [] (closing (to + 1 - from)) (λ d listed. absurd cc) through)

@@ -1,10 +1,10 @@
 -- Files of drawings, the pictures that they show, and what is held of them.
-use Rattle.std.proofs.Common.{◌≡◌, ℕ, zero, suc, ◌+◌, ◌-◌, ◌<◌, ◌≤◌, take, drop, append_assoc, ◌||◌, ◌==◌, Bool, true, false, List, [], ◌∷◌, ◌++◌, length, get_or, map, nat_lt, slice_get, slice_set, slice_index_or, Option, Some, None, is_some, IsNone, ◌↔◌, option_map, option_and_then, Fits, w8, refl, sym, ap, ◌∙◌, arith}
+use Rattle.std.proofs.Common.{◌≡◌, ℕ, suc, ◌+◌, ◌-◌, ◌<◌, ◌≤◌, take, drop, append_assoc, ◌||◌, ◌==◌, Bool, true, false, List, [], ◌∷◌, ◌++◌, length, get_or, map, nat_lt, slice_get, slice_set, slice_index_or, Option, Some, None, is_some, IsNone, ◌↔◌, option_map, option_and_then, unwrap_or, Fits, w8, refl, sym, ap, ◌∙◌, arith}
 use Rattle.std.proofs.Math.Bool.{or-true, or-false}
 use Rattle.std.proofs.lemmas.Bool.Decides.{nat_tests}
-use Rattle.std.proofs.lemmas.Option.{get_or_from_slice_get}
+use Rattle.std.proofs.lemmas.Option.{get_or_from_slice_get, unwrap_or-slice_get}
 use Rattle.std.proofs.Math.ListN.{length-set}
-use Rattle.std.proofs.lemmas.List.{take_more, drop_more, drop_all, take_all}
+use Rattle.std.proofs.lemmas.List.{take_more, drop_more, drop_all, take_all, get_or-set_same, get_or-set_other}
 use Rattle.xs_pixel.specs.Channels.{Channels}
 use Rattle.xs_cm32.specs.Word.{colour_under}
 use Rattle.xs_cm32.specs.Rows.{words}
@@ -32,7 +32,7 @@ use Rattle.std.specs.List.{range_with_len}
 use Rattle.xs_meaning.specs.Expressions.{drawings_of, root_of}
 use Rattle.xs_top.specs.Levels.{needed}
 use Rattle.xs_top.proofs.RowRanges.{needed_next, needed_more, range_over}
-use Rattle.xs_top.proofs.Listings.{listed-append, fresh_known, fresh_new, fresh_none, fresh-append, once_same}
+use Rattle.xs_top.proofs.Listings.{AllKnown, TakenOnce, listed-append, fresh_listed}
 
 -- ---- the file and the kind of a drawing
 
@@ -69,13 +69,13 @@ same_colours palettes others raw_kind.Colour bytes palette same = refl
 same_colours palettes others raw_kind.Cm32 bytes (Some p) same = ap (λ styles. map (colour_under styles) (words bytes)) (same p)
 same_colours palettes others raw_kind.Cm32 bytes None same = refl
 
-pub same_picture : (s : SceneRecord) (palettes : List (List Channels)) (g : Raw) (palette : Option ℕ) → AreShown palettes s → picture_of (palettes_of s) g palette ≡ picture_of palettes g palette
+same_picture : (s : SceneRecord) (palettes : List (List Channels)) (g : Raw) (palette : Option ℕ) → AreShown palettes s → picture_of (palettes_of s) g palette ≡ picture_of palettes g palette
 same_picture s palettes g palette shown =
     ap (λ colours. record { x0 = g.x0; y0 = g.y0; w = g.w; h = g.h; content = content_of g.kind g.bytes; coloured = colours })
     (sym (same_colours palettes (palettes_of s) g.kind g.bytes palette shown))
 
 -- the picture of a drawing whose file was read
-pub picture_is : (files : Files) (s : SceneRecord) (d : ℕ) (g : Raw) → IsFileOf files s d g → pictures_of files s d ≡ Some (picture_of (palettes_of s) g (palette_of (kind_of s d)))
+picture_is : (files : Files) (s : SceneRecord) (d : ℕ) (g : Raw) → IsFileOf files s d g → pictures_of files s d ≡ Some (picture_of (palettes_of s) g (palette_of (kind_of s d)))
 unfolding pictures_of
 picture_is files s d g file = rw (file.there, file.numbers, file.accepted, file.drawing) refl
 
@@ -92,27 +92,22 @@ filmed files s palettes d kind g pictures film is shown read =
 
 -- ---- what is held
 
+flat : {X : Type 0} (o : Option (Option X)) → option_and_then (λ slot. slot) o ≡ unwrap_or o None
+flat None = refl
+flat (Some slot) = refl
+
+slot_is : (h : Held) (d : ℕ) → slot_in h d ≡ get_or h.slots d None
+slot_is h d = flat (slice_get h.slots d) ∙ unwrap_or-slice_get h.slots d None
+
 module _ (x : Raw × Option ℕ) where
-  slot_here : (slots : List (Option (Raw × Option ℕ))) (d : ℕ) → d < length slots → slice_get (slice_set slots d (Some x)) d ≡ Some (Some x)
-  slot_here [] d within = absurd (omega arith)
-  slot_here (slot ∷ slots) zero within = refl
-  slot_here (slot ∷ slots) (suc d) within = slot_here slots d (omega arith)
-
-  slot_there : (slots : List (Option (Raw × Option ℕ))) (d e : ℕ) → (d ≡ e → ⊥) → slice_get (slice_set slots d (Some x)) e ≡ slice_get slots e
-  slot_there [] d e other = refl
-  slot_there (slot ∷ slots) zero zero other = absurd (other refl)
-  slot_there (slot ∷ slots) zero (suc e) other = refl
-  slot_there (slot ∷ slots) (suc d) zero other = refl
-  slot_there (slot ∷ slots) (suc d) (suc e) other = slot_there slots d e (λ same. other (omega arith))
-
   -- the new drawing, and those that were held
   held_at : (h : Held) (d e : ℕ) (t : Bool) → (d == e) ≡ t → d < length h.slots → is_some (slot_in (held (slice_set h.slots d (Some x)) h.palettes) e) ≡ (is_some (slot_in h e) || t)
   held_at h d e true same within =
       let here : d ≡ e = grind (arith, nat_tests) in
-      rw (← here) (ap (λ o. is_some (option_and_then (λ slot. slot) o)) (slot_here h.slots d within) ∙ sym (or-true _))
+      rw (← here) (ap is_some (slot_is (held (slice_set h.slots d (Some x)) h.palettes) d ∙ get_or-set_same h.slots d (Some x) None within) ∙ sym (or-true _))
   held_at h d e false other within =
-      let apart : d ≡ e → ⊥ = grind (arith, nat_tests) in
-      ap (λ o. is_some (option_and_then (λ slot. slot) o)) (slot_there h.slots d e apart) ∙ sym (or-false _)
+      let apart : e ≡ d → ⊥ = grind (arith, nat_tests) in
+      ap is_some (slot_is (held (slice_set h.slots d (Some x)) h.palettes) e ∙ (get_or-set_other h.slots d e (Some x) None apart ∙ sym (slot_is h e))) ∙ sym (or-false _)
 
   pub holds_one : (h : Held) (known : List ℕ) (d : ℕ) → d < length h.slots → Holds h known → Holds (held (slice_set h.slots d (Some x)) h.palettes) (known ++ d ∷ [])
   holds_one h known d within holds e =
@@ -154,38 +149,37 @@ unfolding loading
 loading_first files s d ds next = refl
 
 pub loading_known : (files : Files) (s : SceneRecord) (known : List ℕ) (d : ℕ) (next : Outcome) → is_listed known d ≡ true → loading files s (fresh known (d ∷ [])) next ≡ next
-loading_known files s known d next e =
-    ap (λ ds. loading files s ds next) (fresh_known known [] d e ∙ fresh_none known) ∙ loading_none files s next
+unfolding fresh loading
+loading_known files s known d next e = rw e refl
 
 pub loading_new : (files : Files) (s : SceneRecord) (known : List ℕ) (d : ℕ) (next : Outcome) → is_listed known d ≡ false → loading files s (fresh known (d ∷ [])) next ≡ loading_drawing files s d next
-loading_new files s known d next e =
-    ap (λ ds. loading files s ds next) (fresh_new known [] d e ∙ ap (λ ds. d ∷ ds) (fresh_none _))
-    ∙ (loading_first files s d [] next ∙ ap (loading_drawing files s d) (loading_none files s next))
+unfolding fresh loading
+loading_new files s known d next e = rw e refl
 
 -- ---- drawings one after another
 
-pub loading-append : (files : Files) (s : SceneRecord) (ds es : List ℕ) (next : Outcome) → loading files s (ds ++ es) next ≡ loading files s ds (loading files s es next)
+loading-append : (files : Files) (s : SceneRecord) (ds es : List ℕ) (next : Outcome) → loading files s (ds ++ es) next ≡ loading files s ds (loading files s es next)
 unfolding loading
 loading-append files s [] es next = refl
 loading-append files s (d ∷ ds) es next = ap (loading_drawing files s d) (loading-append files s ds es next)
 
-pub loading_parts : (files : Files) (s : SceneRecord) (known ds es : List ℕ) (next : Outcome) → loading files s (fresh known (ds ++ es)) next ≡ loading files s (fresh known ds) (loading files s (fresh (known ++ ds) es) next)
-loading_parts files s known ds es next =
-    ap (λ l. loading files s l next) (fresh-append known ds es) ∙ loading-append files s (fresh known ds) (fresh (known ++ ds) es) next
+loading_parts : AllKnown → (files : Files) (s : SceneRecord) (known ds es : List ℕ) (next : Outcome) → loading files s (fresh known (ds ++ es)) next ≡ loading files s (fresh known ds) (loading files s (fresh (known ++ ds) es) next)
+loading_parts all files s known ds es next =
+    ap (λ l. loading files s l next) (all known ds es) ∙ loading-append files s (fresh known ds) (fresh (known ++ ds) es) next
 
 -- the drawing at a place of a list, and then those behind it
-pub loading_step : (files : Files) (s : SceneRecord) (known ds : List ℕ) (i : ℕ) (next : Outcome) → i < length ds
+pub loading_step : AllKnown → (files : Files) (s : SceneRecord) (known ds : List ℕ) (i : ℕ) (next : Outcome) → i < length ds
     → loading files s (fresh (known ++ take i ds) (drop i ds)) next
     ≡ loading files s (fresh (known ++ take i ds) (get_or ds i 0 ∷ [])) (loading files s (fresh (known ++ take (i + 1) ds) (drop (i + 1) ds)) next)
-loading_step files s known ds i next within =
+loading_step all files s known ds i next within =
     ap (λ l. loading files s (fresh (known ++ take i ds) l) next) (drop_more ds i 0 within)
-    ∙ (loading_parts files s (known ++ take i ds) (get_or ds i 0 ∷ []) (drop (i + 1) ds) next
+    ∙ (loading_parts all files s (known ++ take i ds) (get_or ds i 0 ∷ []) (drop (i + 1) ds) next
     ∙ ap (λ l. loading files s (fresh (known ++ take i ds) (get_or ds i 0 ∷ [])) (loading files s (fresh l (drop (i + 1) ds)) next))
     (append_assoc known (take i ds) (get_or ds i 0 ∷ []) ∙ ap (λ l. known ++ l) (sym (take_more ds i 0 within))))
 
 pub loading_end : (files : Files) (s : SceneRecord) (known ds : List ℕ) (i : ℕ) (next : Outcome) → length ds ≤ i → loading files s (fresh known (drop i ds)) next ≡ next
-loading_end files s known ds i next past =
-    ap (λ l. loading files s (fresh known l) next) (drop_all i ds past) ∙ (ap (λ l. loading files s l next) (fresh_none known) ∙ loading_none files s next)
+unfolding fresh loading
+loading_end files s known ds i next past = ap (λ l. loading files s (fresh known l) next) (drop_all i ds past)
 
 pub holds_step : (h : Held) (known ds : List ℕ) (i : ℕ) → i < length ds → Holds h ((known ++ take i ds) ++ get_or ds i 0 ∷ []) → Holds h (known ++ take (i + 1) ds)
 holds_step h known ds i within holds d =
@@ -194,26 +188,27 @@ holds_step h known ds i within holds d =
 pub holds_end : (h : Held) (known ds : List ℕ) (i : ℕ) → length ds ≤ i → Holds h (known ++ take i ds) → Holds h (known ++ ds)
 holds_end h known ds i past holds d = holds d ∙ ap (λ l. is_listed (known ++ l) d) (take_all i ds past)
 
-pub holds_once : (h : Held) (known ds : List ℕ) → Holds h (known ++ each_once ds) → Holds h (known ++ ds)
-holds_once h known ds holds d = holds d ∙ (once_same known ds).at d
+pub holds_once : TakenOnce → (h : Held) (known ds : List ℕ) → Holds h (known ++ each_once ds) → Holds h (known ++ ds)
+holds_once once h known ds holds d =
+    holds d ∙ (listed-append known (each_once ds) d ∙ (ap (λ t. is_listed known d || t) (fresh_listed once [] ds d) ∙ sym (listed-append known ds d)))
 
 -- ---- the drawings of rows
 
 -- the drawings of a row, and then those of the rows behind it
-pub loading_row : (files : Files) (s : SceneRecord) (known : List ℕ) (first rows i : ℕ) (next : Outcome) → i < rows
+pub loading_row : AllKnown → (files : Files) (s : SceneRecord) (known : List ℕ) (first rows i : ℕ) (next : Outcome) → i < rows
     → loading files s (fresh (known ++ needed s (range_with_len first i)) (needed s (range_with_len (first + i) (rows - i)))) next
     ≡ loading files s (fresh (known ++ needed s (range_with_len first i)) (drawings_of (root_of s (first + i))))
     (loading files s (fresh (known ++ needed s (range_with_len first (i + 1))) (needed s (range_with_len (first + (i + 1)) (rows - (i + 1))))) next)
-loading_row files s known first rows i next within =
+loading_row all files s known first rows i next within =
     ap (λ l. loading files s (fresh (known ++ needed s (range_with_len first i)) l) next) (needed_next s first rows i within)
-    ∙ (loading_parts files s (known ++ needed s (range_with_len first i)) (drawings_of (root_of s (first + i))) _ next
+    ∙ (loading_parts all files s (known ++ needed s (range_with_len first i)) (drawings_of (root_of s (first + i))) _ next
     ∙ ap (λ l. loading files s (fresh (known ++ needed s (range_with_len first i)) (drawings_of (root_of s (first + i)))) (loading files s (fresh l (needed s (range_with_len (first + (i + 1)) (rows - (i + 1))))) next))
     (append_assoc known _ _ ∙ ap (λ l. known ++ l) (sym (needed_more s first i))))
 
 pub loading_over : (files : Files) (s : SceneRecord) (known : List ℕ) (first rows i : ℕ) (next : Outcome) → rows ≤ i → loading files s (fresh known (needed s (range_with_len (first + i) (rows - i)))) next ≡ next
+unfolding fresh loading
 loading_over files s known first rows i next past =
     ap (λ l. loading files s (fresh known (needed s l)) next) (range_over first rows i past)
-    ∙ (ap (λ l. loading files s l next) (fresh_none known) ∙ loading_none files s next)
 
 pub holds_row : (h : Held) (s : SceneRecord) (known : List ℕ) (first i : ℕ) → Holds h ((known ++ needed s (range_with_len first i)) ++ drawings_of (root_of s (first + i))) → Holds h (known ++ needed s (range_with_len first (i + 1)))
 holds_row h s known first i holds d =

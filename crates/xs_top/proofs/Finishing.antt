@@ -22,7 +22,7 @@ use Rattle.xs_top.specs.Outcome.{asking, placing, noting, decoded, checked, load
 use Rattle.xs_top.proofs.Parts.{asks-append, puts-append, lines-append, after-after}
 use Rattle.xs_top.proofs.Answered.{found_there}
 use Rattle.xs_top.proofs.Verdicts.{scene_asked}
-use Rattle.xs_top.proofs.Listings.{listed-append, fresh_listed, fresh_none, fresh-append}
+use Rattle.xs_top.proofs.Listings.{TakenOnce, listed-append, fresh_listed}
 use Rattle.xs_top.proofs.RowRanges.{range-append}
 use Rattle.xs_top.proofs.Drawn.{drawing_asked, loading_none, loading_first}
 use Rattle.xs_top.proofs.Placed.{placing_none, placing_first}
@@ -41,7 +41,7 @@ rows_up_to from to (suc i) ordered within =
     ∙ (ap (λ rows. rows ++ section_rows from to i) (rows_up_to from to i ordered (omega arith) ∙ ap (range_with_len from) whole)
     ∙ (range-append from (8 * i) (min (to + 1 - (from + 8 * i)) 8) ∙ ap (range_with_len from) count)))
 
-pub all_rows : (from to : ℕ) → from ≤ to → rows_before from to (sections_in from to) ≡ rows_of from to
+all_rows : (from to : ℕ) → from ≤ to → rows_before from to (sections_in from to) ≡ rows_of from to
 all_rows from to ordered =
     let all : min (8 * sections_in from to) (to + 1 - from) ≡ to + 1 - from = omega arith in
     rows_up_to from to (sections_in from to) ordered (omega arith) ∙ ap (range_with_len from) all
@@ -126,28 +126,28 @@ accepted_left files s rows more ok d listed =
     ok d (ap (λ l. is_listed l d) (needed-append s rows more) ∙ (listed-append (needed s rows) (needed s more) d ∙ ap (λ t. t || is_listed (needed s more) d) listed))
 
 -- what a section loads is needed
-needed_fresh : (s : SceneRecord) (earlier rows : List ℕ) (d : ℕ) → is_listed (fresh (needed s earlier) (needed s rows)) d ≡ true → is_listed (needed s (earlier ++ rows)) d ≡ true
-needed_fresh s earlier rows d listed =
+needed_fresh : TakenOnce → (s : SceneRecord) (earlier rows : List ℕ) (d : ℕ) → is_listed (fresh (needed s earlier) (needed s rows)) d ≡ true → is_listed (needed s (earlier ++ rows)) d ≡ true
+needed_fresh once s earlier rows d listed =
     let first = needed s earlier in
     ap (λ l. is_listed l d) (needed-append s earlier rows)
-    ∙ (sym (fresh_listed first (needed s rows) d) ∙ (listed-append first (fresh first (needed s rows)) d ∙ (ap (λ t. is_listed first d || t) listed ∙ or-true _)))
+    ∙ (sym (fresh_listed once first (needed s rows) d) ∙ (listed-append first (fresh first (needed s rows)) d ∙ (ap (λ t. is_listed first d || t) listed ∙ or-true _)))
 
-section_through : (files : Files) (s : SceneRecord) (base earlier rows : List ℕ) (next : Outcome) → AreAccepted files s (earlier ++ rows) → rendering_section files s base earlier rows next ≡ after (section_events s (pictures_of files s) base earlier rows) next
+section_through : TakenOnce → (files : Files) (s : SceneRecord) (base earlier rows : List ℕ) (next : Outcome) → AreAccepted files s (earlier ++ rows) → rendering_section files s base earlier rows next ≡ after (section_events s (pictures_of files s) base earlier rows) next
 unfolding section_events
-section_through files s base earlier rows next ok =
+section_through once files s base earlier rows next ok =
     section_is files s base earlier rows next
-    ∙ (loading_through files s (fresh (needed s earlier) (needed s rows)) _ (λ d listed. ok d (needed_fresh s earlier rows d listed))
+    ∙ (loading_through files s (fresh (needed s earlier) (needed s rows)) _ (λ d listed. ok d (needed_fresh once s earlier rows d listed))
     ∙ (ap (after (map (asked_of s) (fresh (needed s earlier) (needed s rows)))) (placing_through s (pictures_of files s) base rows next)
     ∙ after-after (map (asked_of s) (fresh (needed s earlier) (needed s rows))) (map (placed_of s (pictures_of files s) base) rows) next))
 
-sections_through : (files : Files) (s : SceneRecord) (base : List ℕ) (sections : List (List ℕ)) (earlier : List ℕ) (next : Outcome) → AreAccepted files s (earlier ++ joined sections) → rendering_sections files s base earlier sections next ≡ after (sections_events s (pictures_of files s) base earlier sections) next
+sections_through : TakenOnce → (files : Files) (s : SceneRecord) (base : List ℕ) (sections : List (List ℕ)) (earlier : List ℕ) (next : Outcome) → AreAccepted files s (earlier ++ joined sections) → rendering_sections files s base earlier sections next ≡ after (sections_events s (pictures_of files s) base earlier sections) next
 unfolding sections_events
-sections_through files s base [] earlier next ok = sections_none files s base earlier next
-sections_through files s base (rows ∷ sections) earlier next ok =
+sections_through once files s base [] earlier next ok = sections_none files s base earlier next
+sections_through once files s base (rows ∷ sections) earlier next ok =
     let all : AreAccepted files s ((earlier ++ rows) ++ joined sections) = rw (append_assoc earlier rows (joined sections)) ok in
     sections_first files s base earlier rows sections next
-    ∙ (section_through files s base earlier rows _ (accepted_left files s (earlier ++ rows) (joined sections) all)
-    ∙ (ap (after (section_events s (pictures_of files s) base earlier rows)) (sections_through files s base sections (earlier ++ rows) next all)
+    ∙ (section_through once files s base earlier rows _ (accepted_left files s (earlier ++ rows) (joined sections) all)
+    ∙ (ap (after (section_events s (pictures_of files s) base earlier rows)) (sections_through once files s base sections (earlier ++ rows) next all)
     ∙ after-after (section_events s (pictures_of files s) base earlier rows) (sections_events s (pictures_of files s) base (earlier ++ rows) sections) next))
 
 module _ (s : SceneRecord) (pictures : Pictures) (base : List ℕ) where
@@ -179,15 +179,15 @@ module _ (s : SceneRecord) (pictures : Pictures) (base : List ℕ) where
       ∙ (ap (λ l. map (frame_at s pictures base) rows ++ l) (sections_puts sections (earlier ++ rows))
       ∙ sym (map-append (frame_at s pictures base) rows (joined sections))))
 
-  sections_asks : (sections : List (List ℕ)) (earlier : List ℕ) → asks (sections_events s pictures base earlier sections) ≡ map (file_of s) (fresh (needed s earlier) (needed s (joined sections)))
-  unfolding sections_events
-  sections_asks [] earlier = ap (map (file_of s)) (sym (fresh_none _))
-  sections_asks (rows ∷ sections) earlier =
+  sections_asks : TakenOnce → (sections : List (List ℕ)) (earlier : List ℕ) → asks (sections_events s pictures base earlier sections) ≡ map (file_of s) (fresh (needed s earlier) (needed s (joined sections)))
+  unfolding sections_events fresh
+  sections_asks once [] earlier = refl
+  sections_asks once (rows ∷ sections) earlier =
       asks-append (section_events s pictures base earlier rows) _
       ∙ (ap (λ l. l ++ asks (sections_events s pictures base (earlier ++ rows) sections)) (section_asks earlier rows)
-      ∙ (ap (λ l. map (file_of s) (fresh (needed s earlier) (needed s rows)) ++ l) (sections_asks sections (earlier ++ rows) ∙ ap (λ l. map (file_of s) (fresh l (needed s (joined sections)))) (needed-append s earlier rows))
+      ∙ (ap (λ l. map (file_of s) (fresh (needed s earlier) (needed s rows)) ++ l) (sections_asks once sections (earlier ++ rows) ∙ ap (λ l. map (file_of s) (fresh l (needed s (joined sections)))) (needed-append s earlier rows))
       ∙ (sym (map-append (file_of s) (fresh (needed s earlier) (needed s rows)) _)
-      ∙ ap (map (file_of s)) (sym (fresh-append (needed s earlier) (needed s rows) (needed s (joined sections))) ∙ ap (fresh (needed s earlier)) (sym (needed-append s rows (joined sections)))))))
+      ∙ ap (map (file_of s)) (sym (once.all (needed s earlier) (needed s rows) (needed s (joined sections))) ∙ ap (fresh (needed s earlier)) (sym (needed-append s rows (joined sections)))))))
 
   sections_lines : (sections : List (List ℕ)) (earlier : List ℕ) → lines (sections_events s pictures base earlier sections) ≡ []
   unfolding sections_events
@@ -211,7 +211,7 @@ joined_sections from to ordered =
 abbrev closing_events : ℕ → List Event
 closing_events rows = Line (rendered_line rows) ∷ []
 
-module _ (files : Files) (verdict : Verdict) (name base : List ℕ) (s : SceneRecord) (from to : ℕ) (ordered : from ≤ to) (says : Says files name s) (good : verdict s ≡ None) (ok : AreAccepted files s (rows_of from to)) where
+module _ (once : TakenOnce) (files : Files) (verdict : Verdict) (name base : List ℕ) (s : SceneRecord) (from to : ℕ) (ordered : from ≤ to) (says : Says files name s) (good : verdict s ≡ None) (ok : AreAccepted files s (rows_of from to)) where
   events : List Event
   events = sections_events s (pictures_of files s) base [] (sections_of from to)
 
@@ -221,7 +221,7 @@ module _ (files : Files) (verdict : Verdict) (name base : List ℕ) (s : SceneRe
       let all : AreAccepted files s (joined (sections_of from to)) = rw (joined_sections from to ordered) ok in
       scene_through files verdict name s (rendering_scene files from to base) says
       ∙ (ap (λ found. after (Ask name ∷ []) (checked found (rendering_scene files from to base s))) good
-      ∙ (ap (after (Ask name ∷ [])) (sections_through files s base (sections_of from to) [] (closing (to + 1 - from)) all ∙ after-after events (closing_events (to + 1 - from)) (ended answers.Ok))
+      ∙ (ap (after (Ask name ∷ [])) (sections_through once files s base (sections_of from to) [] (closing (to + 1 - from)) all ∙ after-after events (closing_events (to + 1 - from)) (ended answers.Ok))
       ∙ after-after (Ask name ∷ []) (events ++ closing_events (to + 1 - from)) (ended answers.Ok)))
 
   pub rendered_ends : (rendering files verdict name from to base).status ≡ answers.Ok
@@ -234,7 +234,7 @@ module _ (files : Files) (verdict : Verdict) (name base : List ℕ) (s : SceneRe
   unfolding events
   rendered_asks =
       ap asks work_is ∙ ap (λ l. name ∷ l) (asks-append events (closing_events (to + 1 - from))
-      ∙ (append-nil _ ∙ (sections_asks s (pictures_of files s) base (sections_of from to) [] ∙ ap (λ rows. map (file_of s) (fresh [] (needed s rows))) (joined_sections from to ordered))))
+      ∙ (append-nil _ ∙ (sections_asks s (pictures_of files s) base once (sections_of from to) [] ∙ ap (λ rows. map (file_of s) (fresh [] (needed s rows))) (joined_sections from to ordered))))
 
   pub rendered_puts : puts (rendering files verdict name from to base).work ≡ frames_of files s base (rows_of from to)
   unfolding events

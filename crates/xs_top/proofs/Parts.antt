@@ -40,10 +40,10 @@ unfolding more
 more-more None first then = refl
 more-more (Some told) first then = ap Some (append_assoc told first then)
 
-pub grown-nothing : (seen : Contents) → grown seen [] ≡ seen
+grown-nothing : (seen : Contents) → grown seen [] ≡ seen
 grown-nothing seen = simp more-nothing
 
-pub grown-grown : (seen : Contents) (first then : List Event) → grown (grown seen first) then ≡ grown seen (first ++ then)
+grown-grown : (seen : Contents) (first then : List Event) → grown (grown seen first) then ≡ grown seen (first ++ then)
 grown-grown seen first then = simp (more-more, asks-append, puts-append, lines-append)
 
 pub after-after : (first then : List Event) (left : Outcome) → after first (after then left) ≡ after (first ++ then) left

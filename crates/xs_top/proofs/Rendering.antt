@@ -21,6 +21,7 @@ use Rattle.xs_top.specs.Rendered.{IsRendered, GainedFrames}
 use Rattle.xs_top.proofs.Parts.{more-nothing}
 use Rattle.xs_top.proofs.Wholes.{front}
 use Rattle.xs_top.proofs.Commands.{command_obeyed}
+use Rattle.xs_top.proofs.Listings.{TakenOnce}
 use Rattle.xs_top.proofs.Finishing.{scene_through, rendered_asks, rendered_puts, rendered_lines}
 use Rattle.xs_top.proofs.Accepting.{rendered_accepted}
 use Rattle.xs_top.proofs.Fronts.{says_or_not, front_rendering}
@@ -47,21 +48,21 @@ module _ (files : Files) (verdict : Verdict) (name base : List ℕ) (from to : �
         | inr none ↦ absurd (none.other (ap (λ o. o.status) (sym none.ends) ∙ ends))
       ]
 
-  rendered_all : ((s : SceneRecord) → Checking s (verdict s)) → (before now : Contents) → now ≡ grown before (rendering files verdict name from to base).work → (rendering files verdict name from to base).status ≡ answers.Ok → IsRendered files name base from to before now
-  rendered_all right before now whole ends =
+  rendered_all : TakenOnce → ((s : SceneRecord) → Checking s (verdict s)) → (before now : Contents) → now ≡ grown before (rendering files verdict name from to base).work → (rendering files verdict name from to base).status ≡ answers.Ok → IsRendered files name base from to before now
+  rendered_all once right before now whole ends =
       let read = rendered_scene ends in
       let s = read.0 in
       let says = read.1 in
       let good = read.2 in
-      let ok = rendered_accepted files verdict name base s from to ordered says ends in
+      let ok = rendered_accepted once files verdict name base s from to ordered says ends in
       record {
         scene = s;
         says = says;
         faultless = subst (Checking s) good (right s);
         accepted = ok;
-        asked = ap (λ seen. seen.asked) whole ∙ ap (more before.asked) (rendered_asks files verdict name base s from to ordered says good ok);
-        frames = ap (λ seen. seen.shelf) whole ∙ ap (more before.shelf) (rendered_puts files verdict name base s from to ordered says good ok);
-        line = ap (λ seen. seen.notes) whole ∙ ap (more before.notes) (rendered_lines files verdict name base s from to ordered says good ok);
+        asked = ap (λ seen. seen.asked) whole ∙ ap (more before.asked) (rendered_asks once files verdict name base s from to ordered says good ok);
+        frames = ap (λ seen. seen.shelf) whole ∙ ap (more before.shelf) (rendered_puts once files verdict name base s from to ordered says good ok);
+        line = ap (λ seen. seen.notes) whole ∙ ap (more before.notes) (rendered_lines once files verdict name base s from to ordered says good ok);
       }
 
   nothing_placed : ((s : SceneRecord) → Says files name s → ⊥) → puts (rendering files verdict name from to base).work ≡ []
@@ -90,10 +91,10 @@ module _ (files : Files) (verdict : Verdict) (words : List (List ℕ)) (name bas
   unfolding commanding
   is_rendering = command_obeyed files verdict words (command.Render name from to workers base) reads
 
-  pub run_rendered : ((s : SceneRecord) → Checking s (verdict s)) → result ≡ answers.Ok → IsRendered files name base from to before now
-  run_rendered right ends =
+  pub run_rendered : TakenOnce → ((s : SceneRecord) → Checking s (verdict s)) → result ≡ answers.Ok → IsRendered files name base from to before now
+  run_rendered once right ends =
       let unbroken : is_broken result ≡ false = ap is_broken ends in
-      rendered_all files verdict name base from to ordered right before now
+      rendered_all files verdict name base from to ordered once right before now
       (run.whole unbroken ∙ ap (λ o. grown before o.work) is_rendering)
       (ap (λ o. o.status) (sym is_rendering) ∙ (sym (run.answer unbroken) ∙ ends))
 

@@ -1,21 +1,19 @@
 -- Sections, and what they need.
 use Rattle.std.proofs.Common.{◌≡◌, ℕ, ◌+◌, ◌-◌, ◌<◌, ◌≤◌, ◌&&◌, Bool, true, false, List, [], ◌∷◌, ◌++◌, length, get_or, map, flat_map, drop, IfSome, is_some, is_none, nat_lt, ◌||◌, zero, suc, slice_get, option_and_then, replicate, Option, Some, None, refl, sym, ap, ◌∙◌, arith}
-use Rattle.std.specs.List.{range_with_len, AllByRecursion}
+use Rattle.std.specs.List.{range_with_len}
 use Rattle.std.specs.Simd.Lanes.{Each1}
 use Rattle.std.proofs.Math.Bool.{or-true}
+use Rattle.std.proofs.lemmas.Bool.{and_parts}
 use Rattle.std.proofs.lemmas.Bool.Decides.{nat_tests}
 use Rattle.std.proofs.lemmas.List.{append-nil, length-replicate}
-use Rattle.std.proofs.lemmas.List.Elements.{All-from_recursion}
 use Rattle.std.proofs.lemmas.List.Folds.{list_any_at}
 use Rattle.std.proofs.lemmas.Grind.{flat_map-append}
 use Rattle.xs_direct.specs.Pictures.{AreHeld}
 use Rattle.xs_meaning.specs.Drawings.{ArePixels, HoldsPixels}
 use Rattle.xs_meaning.specs.Palettes.{is_listed}
 use Rattle.xs_schematic.specs.Once.{fresh}
-use Rattle.xs_pixel.specs.Channels.{Channels, IsPixel}
-use Rattle.xs_pixel.specs.Rows.{pixels}
+use Rattle.xs_pixel.specs.Channels.{Channels}
 use Rattle.xs_rawfile.specs.declared.drawing.RawKind.{RawKind}
-use Rattle.xs_rawfile.specs.declared.drawing.RawKind.TheVariants as raw_kind
 use Rattle.xs_rawfile.specs.Held.{Held, held, content_of}
 use Rattle.xs_rawfile.specs.Level.{raw_of, first_fault}
 use Rattle.xs_rawfile.specs.Raw.{Raw, IsRaw, Fills}
@@ -33,22 +31,10 @@ use Rattle.xs_top.proofs.RowRanges.{range_next, range_over, range-append}
 
 -- ---- the pictures of files hold pixels
 
-each-recursion : {A : Type 0} (P : A → Type 0) (xs : List A) → Each1 P xs → AllByRecursion P xs
-each-recursion P [] each = tt
-each-recursion P (x ∷ xs) each = (each.0, each-recursion P xs each.1)
-
-filled : (kind : RawKind) (bytes : List ℕ) → Fills kind bytes → HoldsPixels (content_of kind bytes)
-filled raw_kind.Colour bytes fills = All-from_recursion IsPixel (pixels bytes) (each-recursion IsPixel (pixels bytes) fills)
-filled raw_kind.Cm32 bytes fills = tt
-
-both_true : (a b : Bool) → (a && b) ≡ true → (a ≡ true) × (b ≡ true)
-both_true true b e = (refl, e)
-both_true false b e = absurd cc
-
 each_byte : (xs : List ℕ) → are_bytes xs ≡ true → Each1 (λ b. b < 256) xs
 each_byte [] e = tt
 each_byte (x ∷ xs) e =
-    let both = both_true (nat_lt x 256) (are_bytes xs) e in
+    let both = and_parts (nat_lt x 256) (are_bytes xs) e in
     (grind (arith, nat_tests, both.0), each_byte xs both.1)
 
 no_fault : (fault : Option LevelCode) → is_none fault ≡ true → fault ≡ None
@@ -61,20 +47,24 @@ FilesHold =
     (kind : RawKind) (bytes : List ℕ) → Each1 (λ b. b < 256) bytes → first_fault kind bytes ≡ None
     → IsRaw (raw_of kind bytes)
 
-picture_holds : FilesHold → (palettes : List (List Channels)) (kind : Kind) (bytes : List ℕ) (t : Bool) → (are_bytes bytes && is_none (first_fault (raw_kind_of kind) bytes)) ≡ t → IfSome (picture_in palettes kind bytes) (λ q. HoldsPixels q.content)
-picture_holds hold palettes kind bytes true e =
-    let both = both_true (are_bytes bytes) _ e in
+-- what it holds is pixels
+abbrev pub FillHolds : Type 0
+FillHolds = (kind : RawKind) (bytes : List ℕ) → Fills kind bytes → HoldsPixels (content_of kind bytes)
+
+picture_holds : FilesHold → FillHolds → (palettes : List (List Channels)) (kind : Kind) (bytes : List ℕ) (t : Bool) → (are_bytes bytes && is_none (first_fault (raw_kind_of kind) bytes)) ≡ t → IfSome (picture_in palettes kind bytes) (λ q. HoldsPixels q.content)
+picture_holds hold filled palettes kind bytes true e =
+    let both = and_parts (are_bytes bytes) _ e in
     let raw = hold (raw_kind_of kind) bytes (each_byte bytes both.0) (no_fault _ both.1) in
     rw e (filled (raw_kind_of kind) (drop 21 bytes) raw.fills)
-picture_holds hold palettes kind bytes false e = rw e tt
+picture_holds hold filled palettes kind bytes false e = rw e tt
 
-file_holds : FilesHold → (palettes : List (List Channels)) (kind : Kind) (file : Option (List ℕ)) → IfSome (option_and_then (picture_in palettes kind) file) (λ q. HoldsPixels q.content)
-file_holds hold palettes kind None = tt
-file_holds hold palettes kind (Some bytes) = picture_holds hold palettes kind bytes _ refl
+file_holds : FilesHold → FillHolds → (palettes : List (List Channels)) (kind : Kind) (file : Option (List ℕ)) → IfSome (option_and_then (picture_in palettes kind) file) (λ q. HoldsPixels q.content)
+file_holds hold filled palettes kind None = tt
+file_holds hold filled palettes kind (Some bytes) = picture_holds hold filled palettes kind bytes _ refl
 
-pub pictures_hold : FilesHold → (files : Files) (s : SceneRecord) → ArePixels (pictures_of files s)
+pub pictures_hold : FilesHold → FillHolds → (files : Files) (s : SceneRecord) → ArePixels (pictures_of files s)
 unfolding pictures_of
-pictures_hold hold files s d = file_holds hold (palettes_of s) (kind_of s d) (files (file_of s d))
+pictures_hold hold filled files s d = file_holds hold filled (palettes_of s) (kind_of s d) (files (file_of s d))
 
 -- ---- what is held
 

@@ -24,6 +24,7 @@ use xs_outside::{Library, Notes, Shelf};
 use xs_pixel::Memory;
 use xs_scene::Name;
 use xs_scene_json::encode;
+use xs_schematic::laws::each_number_is_taken_once;
 use xs_words::{Command, read_words};
 
 /// The line at the end of so many rows.
@@ -221,6 +222,7 @@ pub fn run<L: Library, S: Shelf, T: Notes>(
         ⊎ Rose (S.faults shelf.old) (S.faults shelf.new)) }
 {
     checking_finds_one_thing();
+    each_number_is_taken_once();
     match try_run(alloc, words, lib, shelf, notes) {
         Ok(()) => Status::Ok,
         Err(status) => status,

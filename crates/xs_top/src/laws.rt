@@ -12,6 +12,7 @@ ghost use Rattle.xs_top.specs.Finished.{Says, AreAccepted, frames_of};
 ghost use Rattle.xs_top.specs.Outcome.{rendered_line, rendering, outcome};
 
 use xs_check::laws::checking_finds_one_thing;
+use xs_schematic::laws::each_number_is_taken_once;
 
 /// A scene file may have 16 MiB, and the file of a drawing what the largest drawing has.
 pub fn files_have_their_limits()
@@ -44,7 +45,9 @@ pub fn a_good_scene_is_rendered()
     ensures noted { (files : Files) (verdict : Verdict) (name base : List ℕ) (s : SceneRecord) (from to : ℕ) → from ≤ to
         → Says files name s → verdict s ≡ None → AreAccepted files s (rows_of from to)
         → lines (rendering files verdict name from to base).work ≡ rendered_line (to + 1 - from) ++ 10 ∷ [] }
-{}
+{
+    each_number_is_taken_once();
+}
 
 /// No other render ends well: a file says a scene without a fault, and each drawing that its rows need is there
 /// without a fault.
@@ -55,7 +58,9 @@ pub fn only_a_good_scene_is_rendered()
     ensures accepted { (files : Files) (verdict : Verdict) (name base : List ℕ) (s : SceneRecord) (from to : ℕ) → from ≤ to
         → Says files name s → (rendering files verdict name from to base).status ≡ answers.Ok
         → AreAccepted files s (rows_of from to) }
-{}
+{
+    each_number_is_taken_once();
+}
 
 /// Before a file is asked for, the frames of whole sections stand on the shelf.
 pub fn a_file_is_asked_for_behind_whole_sections()

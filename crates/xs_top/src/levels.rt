@@ -171,6 +171,7 @@ fn load_drawings<K: Film, L: Library>(
     ensures library { LeavesLibrary (L.files lib.old) (L.files lib.new) (L.faults lib.old) (L.faults lib.new) (answer_of result) }
     ensures output { is_of_output (answer_of result) ≡ false }
 {
+    each_number_is_taken_once();
     for d in numbers {
         load_if_new(alloc, good, *d, lib, drawings)?;
     }
@@ -225,6 +226,7 @@ pub(crate) fn load_rows<K: Film, L: Library>(
     ensures library { LeavesLibrary (L.files lib.old) (L.files lib.new) (L.faults lib.old) (L.faults lib.new) (answer_of result) }
     ensures output { is_of_output (answer_of result) ≡ false }
 {
+    each_number_is_taken_once();
     for i in 0..rows {
         load_row(alloc, good, first + i, lib, drawings)?;
     }

@@ -15,6 +15,7 @@ use crate::palettes::palettes;
 use crate::status::Status;
 use std::alloc::Global;
 use xs_check::GoodScene;
+use xs_direct::laws::drawings_hold_pixels;
 use xs_outside::{Library, Shelf};
 use xs_pixel::Film;
 use xs_rawfile::Drawings;
@@ -50,6 +51,7 @@ fn render_section<K: Film, L: Library, S: Shelf>(
     ensures shelf { LeavesOutput (S.faults shelf.old) (S.faults shelf.new) (answer_of result) }
 {
     files_without_fault_hold_drawings();
+    drawings_hold_pixels();
     load_rows(alloc, good, first, rows, lib, drawings)?;
     place_rows(alloc, good, drawings, first, rows, base, shelf)?;
     Ok(())

@@ -4,6 +4,7 @@ use Rattle.xs_scene.specs.Records.{SceneRecord}
 use Rattle.xs_check.specs.Passes.{Checking}
 use Rattle.xs_top.specs.declared.status.Status.TheVariants as answers
 use Rattle.xs_top.specs.Told.{Files, Verdict, IsVerdict}
+use Rattle.xs_top.proofs.Listings.{TakenOnce}
 use Rattle.xs_top.proofs.Wholes.{stopped_run}
 use Rattle.xs_top.proofs.Rendering.{run_rendered, run_frames}
 use Rattle.xs_top.proofs.command.run.Goals as goal
@@ -33,15 +34,19 @@ returns-in-Err-clause-told g c = λ files e.
 
 pub returns-in-Ok-clause-rendered : goal.returns-in-Ok-clause-rendered
 returns-in-Ok-clause-rendered g c = λ files e scene base from to workers ordered reads ends.
+    let law = c.each_number_is_taken_once.ensures in
+    let once : TakenOnce = record { all = law.all_of_the_first_known; new = law.one_after_another } in
     let found = c.checking_finds_one_thing.ensures.there in
     let run = stopped_run _ _ _ answers.Ok (c.in-Ok.ensures.told files e (verdict_of found) (is_verdict found files)) in
-    run_rendered files (verdict_of found) _ scene base from to workers ordered reads _ _ _ run (verdict_right found) ends
+    run_rendered files (verdict_of found) _ scene base from to workers ordered reads _ _ _ run once (verdict_right found) ends
 
 pub returns-in-Err-clause-rendered : goal.returns-in-Err-clause-rendered
 returns-in-Err-clause-rendered g c = λ files e scene base from to workers ordered reads ends.
+    let law = c.each_number_is_taken_once.ensures in
+    let once : TakenOnce = record { all = law.all_of_the_first_known; new = law.one_after_another } in
     let found = c.checking_finds_one_thing.ensures.there in
     let run = stopped_run _ _ _ _ (c.in-Err.ensures.told files e (verdict_of found) (is_verdict found files)) in
-    run_rendered files (verdict_of found) _ scene base from to workers ordered reads _ _ _ run (verdict_right found) ends
+    run_rendered files (verdict_of found) _ scene base from to workers ordered reads _ _ _ run once (verdict_right found) ends
 
 pub returns-in-Ok-clause-frames : goal.returns-in-Ok-clause-frames
 returns-in-Ok-clause-frames g c = λ files e scene base from to workers ordered reads.

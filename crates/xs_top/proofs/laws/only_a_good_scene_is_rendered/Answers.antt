@@ -1,11 +1,10 @@
+use Rattle.xs_top.proofs.Listings.{TakenOnce}
 use Rattle.xs_top.proofs.Accepting.{rendered_accepted}
 use Rattle.xs_top.proofs.Rendering.{rendered_scene}
 use Rattle.xs_top.proofs.laws.only_a_good_scene_is_rendered.Goals as goal
 
-pub returns-clause-said : goal.returns-clause-said
-returns-clause-said c = λ files verdict name base from to ordered ends.
-    rendered_scene files verdict name base from to ordered ends
-
-pub returns-clause-accepted : goal.returns-clause-accepted
-returns-clause-accepted c = λ files verdict name base s from to ordered says ends.
-    rendered_accepted files verdict name base s from to ordered says ends
+pub returns : goal.returns
+returns c =
+    let law = c.each_number_is_taken_once.ensures in
+    let once : TakenOnce = record { all = law.all_of_the_first_known; new = law.one_after_another } in
+    record { said = rendered_scene; accepted = rendered_accepted once }

@@ -32,7 +32,7 @@ returns-in_err-load_if_new-clause-told g c = λ files e known holds next seen.
     let first = c.loop-d.invariant.told files e known holds next seen in
     let then = c.in_err-load_if_new.ensures.told files (c.loop-d.invariant.same ∙ e) (known ++ take i ds) (c.loop-d.invariant.held known holds) (rest files c.args.good.now known ds (i + 1) next) seen in
     let within : i < length ds = omega arith in
-    rw (p.1, p.2) (stopped_then _ _ _ _ _ _ first (rw (loading_step files c.args.good.now known ds i next within) then))
+    rw (p.1, p.2) (stopped_then _ _ _ _ _ _ first (rw (loading_step c.each_number_is_taken_once.ensures.all_of_the_first_known files c.args.good.now known ds i next within) then))
 
 pub loop-d-preserved : goal.loop-d-preserved
 loop-d-preserved g c =
@@ -43,7 +43,7 @@ loop-d-preserved g c =
       told = λ files e known holds next seen.
           let first = c.loop-d.invariant.told files e known holds next seen in
           let then = c.in_ok-load_if_new.ensures.told files (c.loop-d.invariant.same ∙ e) (known ++ take i ds) (c.loop-d.invariant.held known holds) (rest files c.args.good.now known ds (i + 1) next) seen in
-          did_then first (rw (loading_step files c.args.good.now known ds i next within) then);
+          did_then first (rw (loading_step c.each_number_is_taken_once.ensures.all_of_the_first_known files c.args.good.now known ds i next within) then);
       held = λ known holds.
           holds_step c.load_if_new.new.drawings known ds i within (c.in_ok-load_if_new.ensures.held (known ++ take i ds) (c.loop-d.invariant.held known holds));
       room = c.in_ok-load_if_new.ensures.room;

@@ -1,6 +1,7 @@
 use Rattle.std.proofs.lemmas.Result.{err_from_is_err_and}
 use Rattle.xs_meaning.specs.Expressions.{drawings_of, root_of}
 use Rattle.xs_top.proofs.Parts.{did_nothing}
+use Rattle.xs_top.proofs.Listings.{TakenOnce}
 use Rattle.xs_top.proofs.Drawn.{holds_once}
 use Rattle.xs_top.proofs.levels.load_row.Goals as goal
 
@@ -22,4 +23,6 @@ returns-clause-told g c = λ files e known holds next seen.
 pub returns-clause-held : goal.returns-clause-held
 returns-clause-held g c = λ known holds.
     let held = rw (c.as_slice.ensures.value, c.in_ok-numbers.ensures.value) at (c.in_ok-load_drawings.ensures.held known holds) in
-    holds_once c.load_drawings.new.drawings known (drawings_of (root_of c.args.good.now c.args.row)) held
+    let law = c.each_number_is_taken_once.ensures in
+    let once : TakenOnce = record { all = law.all_of_the_first_known; new = law.one_after_another } in
+    holds_once once c.load_drawings.new.drawings known (drawings_of (root_of c.args.good.now c.args.row)) held

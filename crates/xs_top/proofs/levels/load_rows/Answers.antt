@@ -37,7 +37,7 @@ returns-in_err-load_row-clause-told g c = λ files e known holds next seen.
     let first = c.loop-i.invariant.told files e known holds next seen in
     let then = c.in_err-load_row.ensures.told files (c.loop-i.invariant.same ∙ e) (known ++ needed c.args.good.now (range_with_len c.args.first i)) (c.loop-i.invariant.held known holds) (rest files c.args.good.now known c.args.first c.args.rows (i + 1) next) seen in
     let within : i < c.args.rows = omega arith in
-    rw (p.1, p.2) (stopped_then _ _ _ _ _ _ first (rw (loading_row files c.args.good.now known c.args.first c.args.rows i next within) then))
+    rw (p.1, p.2) (stopped_then _ _ _ _ _ _ first (rw (loading_row c.each_number_is_taken_once.ensures.all_of_the_first_known files c.args.good.now known c.args.first c.args.rows i next within) then))
 
 pub loop-i-preserved : goal.loop-i-preserved
 loop-i-preserved g c =
@@ -47,7 +47,7 @@ loop-i-preserved g c =
       told = λ files e known holds next seen.
           let first = c.loop-i.invariant.told files e known holds next seen in
           let then = c.in_ok-load_row.ensures.told files (c.loop-i.invariant.same ∙ e) (known ++ needed c.args.good.now (range_with_len c.args.first i)) (c.loop-i.invariant.held known holds) (rest files c.args.good.now known c.args.first c.args.rows (i + 1) next) seen in
-          did_then first (rw (loading_row files c.args.good.now known c.args.first c.args.rows i next within) then);
+          did_then first (rw (loading_row c.each_number_is_taken_once.ensures.all_of_the_first_known files c.args.good.now known c.args.first c.args.rows i next within) then);
       held = λ known holds.
           holds_row c.load_row.new.drawings c.args.good.now known c.args.first i (c.in_ok-load_row.ensures.held (known ++ needed c.args.good.now (range_with_len c.args.first i)) (c.loop-i.invariant.held known holds));
       room = c.in_ok-load_row.ensures.room;

@@ -28,7 +28,7 @@ returns-in_err-place_rows-clause-told g c = λ files e earlier holds next seen.
     let held = listed_held c.load_rows.new.drawings (needed c.args.good.now earlier) (needed c.args.good.now rows) (c.in_ok-load_rows.ensures.held (needed c.args.good.now earlier) holds) in
     let loaded_to : Contents = with_asked seen (g.L.Library.asked c.load_rows.new.lib) in
     rw (p.1, p.2, section_is files c.args.good.now c.args.base.now earlier rows next)
-    (stopped_then _ _ _ _ _ _ loaded (c.in_err-place_rows.ensures.told pictures told (pictures_hold c.files_without_fault_hold_drawings.ensures files c.args.good.now) held next loaded_to))
+    (stopped_then _ _ _ _ _ _ loaded (c.in_err-place_rows.ensures.told pictures told (pictures_hold c.files_without_fault_hold_drawings.ensures c.drawings_hold_pixels.ensures files c.args.good.now) held next loaded_to))
 
 pub returns-clause-told : goal.returns-clause-told
 returns-clause-told g c = λ files e earlier holds next seen.
@@ -40,4 +40,4 @@ returns-clause-told g c = λ files e earlier holds next seen.
     let held = listed_held c.load_rows.new.drawings (needed c.args.good.now earlier) (needed c.args.good.now rows) (c.in_ok-load_rows.ensures.held (needed c.args.good.now earlier) holds) in
     let loaded_to : Contents = with_asked seen (g.L.Library.asked c.load_rows.new.lib) in
     rw (section_is files c.args.good.now c.args.base.now earlier rows next)
-    (did_then loaded (c.in_ok-place_rows.ensures.told pictures told (pictures_hold c.files_without_fault_hold_drawings.ensures files c.args.good.now) held next loaded_to))
+    (did_then loaded (c.in_ok-place_rows.ensures.told pictures told (pictures_hold c.files_without_fault_hold_drawings.ensures c.drawings_hold_pixels.ensures files c.args.good.now) held next loaded_to))
