@@ -1,7 +1,9 @@
-ghost use Rattle.std.specs.Prelude.{◌≡◌, ◌≤◌, [], None, ⊤};
+ghost use Rattle.std.specs.Prelude.{◌≡◌, ◌≤◌, ℕ, List, [], Option, None, Some, IfSome, ⊤};
+ghost use Rattle.std.specs.IoError.{error_kind};
 ghost use Rattle.xs_outside.specs.Told.{Rose};
 ghost use Rattle.xs_outside.specs.Answers.{IsFetched, IsAsked, KeepsFetch};
 ghost use Rattle.xs_outside.specs.Counts.{CountsFetch};
+ghost use Rattle.xs_host.specs.Opening.{opening_answer, reading_answer};
 
 use std::alloc::Global;
 use std::io::{ErrorKind, Read};
@@ -35,9 +37,10 @@ impl<'a, R: Files> FolderLibrary<'a, R> {
     }
 }
 
-/// The answer to a fault of opening or reading.
-fn fault_answer(error: &io::Error) -> Fetched
-    ensures { IsFetched None [] 0 ⊤ result }
+/// The answer to a fault of opening a file.
+fn opening_fault(error: &io::Error) -> Fetched
+    ensures value { result ≡ opening_answer (error_kind error.now) }
+    ensures within { IsFetched None [] 0 ⊤ result }
 {
     match error.kind() {
         ErrorKind::NotFound => Fetched::Absent,
@@ -46,23 +49,41 @@ fn fault_answer(error: &io::Error) -> Fetched
     }
 }
 
-/// The bytes of the file of this name. At most `limit + 1` of them are read, so that a file without
-/// end is too long.
-fn read_file<R: Files>(rt: &R, alloc: Global, name: &str, limit: u64) -> Fetched
-    ensures within { IsFetched None name.now limit ⊤ result }
+/// The answer to a fault of reading a file that is open.
+fn reading_fault(error: &io::Error) -> Fetched
+    ensures value { result ≡ reading_answer (error_kind error.now) }
+    ensures of_any_file { (files : Option (List ℕ → Option (List ℕ))) (limit : ℕ) → IsFetched files [] limit ⊤ result }
 {
-    let file = match fs::open(rt, name) {
-        Ok(file) => file,
-        Err(error) => return fault_answer(&error),
-    };
+    match error.kind() {
+        ErrorKind::OutOfMemory => Fetched::Memory,
+        _ => Fetched::Failed,
+    }
+}
+
+/// The bytes of an open file, if there are at most `limit`. At most `limit + 1` of them are read, so
+/// that a file without end is too long.
+fn read_open<F: Read + Drop>(file: F, alloc: Global, limit: u64) -> Fetched
+    ensures within { IsFetched None [] limit ⊤ result }
+    ensures whole { IfSome (F.remaining file) (λ bytes. IsFetched (Some (λ _. Some bytes)) [] limit ⊤ result) }
+{
     let mut bytes = Vec::new(alloc);
     if let Err(error) = file.take(limit.saturating_add(1)).read_to_end(&mut bytes) {
-        return fault_answer(&error);
+        return reading_fault(&error);
     }
     if bytes.len() as u64 > limit {
         return Fetched::TooLong;
     }
     Fetched::Bytes(bytes)
+}
+
+/// The bytes of the file of this name, if there are at most `limit`.
+fn read_file<R: Files>(rt: &R, alloc: Global, name: &str, limit: u64) -> Fetched
+    ensures { IsFetched None name.now limit ⊤ result }
+{
+    match fs::open(rt, name) {
+        Ok(file) => read_open(file, alloc, limit),
+        Err(error) => opening_fault(&error),
+    }
 }
 
 #[tactic(auto, unfolding(xs_outside::specs::Told::more))]

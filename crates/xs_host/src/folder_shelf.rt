@@ -1,9 +1,9 @@
-ghost use Rattle.std.specs.Prelude.{◌≡◌, ◌≤◌, None};
+ghost use Rattle.std.specs.Prelude.{◌≡◌, ◌≤◌, ◌++◌, None, IfOk, codes, string_bytes};
 ghost use Rattle.xs_outside.specs.Told.{Rose};
 ghost use Rattle.xs_outside.specs.Answers.{IsPut, KeepsPut};
 ghost use Rattle.xs_outside.specs.Counts.{CountsPut};
 
-use std::alloc::Global;
+use std::alloc::{AllocError, Global};
 use std::io::Write;
 use std::marker::Model;
 use std::rt::Files;
@@ -34,6 +34,14 @@ impl<'a, R: Files> FolderShelf<'a, R> {
     {
         FolderShelf { rt, faults: 0 }
     }
+}
+
+/// The name of the file in which one of this name is written at first. It begins with a dot, as no
+/// name of a scene, a drawing or a frame does.
+fn name_beside(alloc: Global, name: &str) -> Result<String, AllocError>
+    ensures { IfOk result (λ beside. string_bytes beside ≡ codes "." ++ (name.now ++ codes ".part")) }
+{
+    format!(in alloc; ".{name}.part")
 }
 
 /// Writes a file of this name, or replaces it, as a whole: the bytes go to a file beside it, which
@@ -67,8 +75,7 @@ impl<R: Files> Shelf for FolderShelf<'_, R> {
         ensures keeps { KeepsPut self.old self.new result }
         ensures counts { CountsPut self.old self.new result }
     {
-        // No name of a scene, a drawing or a frame begins with a dot.
-        let Ok(beside) = format!(in alloc; ".{name}.part") else {
+        let Ok(beside) = name_beside(alloc, name) else {
             return Put::Memory;
         };
         if replace_file(self.rt, beside.as_str(), name, bytes).is_err() {

@@ -1,4 +1,4 @@
-ghost use Rattle.std.specs.Prelude.{◌≡◌, ◌≤◌, None};
+ghost use Rattle.std.specs.Prelude.{◌≡◌, ◌≤◌, [], ◌∷◌, ◌++◌, None, IfOk};
 ghost use Rattle.xs_outside.specs.Told.{Rose};
 ghost use Rattle.xs_outside.specs.Answers.{IsNoted, KeepsLine};
 ghost use Rattle.xs_outside.specs.Counts.{CountsLine};
@@ -33,7 +33,9 @@ impl<'a, R: Print> OutNotes<'a, R> {
 }
 
 /// These bytes and the end of the line.
-fn ended_line(alloc: Global, bytes: &[u8]) -> Result<Vec<u8>, AllocError> {
+fn ended_line(alloc: Global, bytes: &[u8]) -> Result<Vec<u8>, AllocError>
+    ensures { IfOk result (λ line. line.items ≡ bytes.now ++ 10 ∷ []) }
+{
     let mut line = Vec::new(alloc);
     line.extend_from_slice(bytes)?;
     line.push(b'\n')?;
