@@ -228,8 +228,7 @@ filtered_nested node keys =
 -- styles before the one of that level
 abbrev pub two_levels : SceneRecord
 two_levels =
-    record (painted [] (columns_alone (column (record { from = 1; to = 1; shown = Drawing 1 0 } ∷ []) ∷ []) ∷ []))
-    {
+    record (painted [] (columns_alone (column (record { from = 1; to = 1; shown = Drawing 1 0 } ∷ []) ∷ []) ∷ [])) {
       palettes = no_colours ∷ (painted [] []).palettes;
       levels = record { kind = Colour; drawings = [] ∷ [] ∷ [] } ∷ record { kind = Cm32 1; drawings = [] ∷ [] } ∷ [];
     }
