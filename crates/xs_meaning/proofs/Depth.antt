@@ -26,7 +26,7 @@ use Rattle.xs_meaning.proofs.Lists.{All-slice_index_or}
 abbrev SameInput : {A : Type 0} → Inputs A → Inputs A → Ref → Type 0
 SameInput val val' t = (row : ℕ) (f : Dropped) → val t row f ≡ val' t row f
 
-pub InputsHave-map :
+InputsHave-map :
     (P Q : Ref → Type 0) → ((t : Ref) → P t → Q t) → (node : Option Node) → InputsHave P node → InputsHave Q node
 InputsHave-map P Q leads None have = tt
 InputsHave-map P Q leads (Some (Pair op first second)) have = (leads first have.0, leads second have.1)
@@ -65,7 +65,7 @@ node_by-same R val val' (Some (Keep input styles)) row f same = same row (keepin
 node_by-same R val val' (Some (Delete input styles)) row f same = same row (deleting styles f)
 
 -- a walk that ends is no other with more depth
-pub walk-deeper :
+walk-deeper :
     {A : Type 0} (R : Reading A) (rows : Rows A) (k : SheetRecord) (m more : ℕ) → m ≤ more
     → (n : Ref) → NodesEnd k m n → SameInput (walk R rows k (suc more)) (walk R rows k (suc m)) n
 unfolding walk NodesEnd
@@ -122,14 +122,14 @@ seen_by-same R rows rows' (Drawing level index) row f same = refl
 seen_by-same R rows rows' (Row sheet inner) row f same = same inner f
 
 -- P holds of each sheet that a sheet's columns show
-abbrev pub ShowsOnly : (ℕ → Type 0) → SheetRecord → Type 0
+abbrev ShowsOnly : (ℕ → Type 0) → SheetRecord → Type 0
 ShowsOnly P k = All (λ column. All (λ e. ShownHas P e.shown) column.cells) k.columns
 
 ShownHas-map : (P Q : ℕ → Type 0) → ((j : ℕ) → P j → Q j) → (shown : Shown) → ShownHas P shown → ShownHas Q shown
 ShownHas-map P Q leads (ShowsDrawing level index) has = tt
 ShownHas-map P Q leads (Sheet sheet start) has = leads sheet has
 
-pub ShowsOnly-map : (P Q : ℕ → Type 0) → ((j : ℕ) → P j → Q j) → (k : SheetRecord) → ShowsOnly P k → ShowsOnly Q k
+ShowsOnly-map : (P Q : ℕ → Type 0) → ((j : ℕ) → P j → Q j) → (k : SheetRecord) → ShowsOnly P k → ShowsOnly Q k
 ShowsOnly-map P Q leads k shows = λ i column lt j e below. ShownHas-map P Q leads _ (shows i column lt j e below)
 
 column_by-same :
@@ -142,7 +142,7 @@ column_by-same R rows rows' k c row f shows =
     (All-slice_index_or (λ column. All (λ e. ShownHas (SameRows rows rows') e.shown) column.cells)
     k.columns c no_column (λ i d lt. absurd (omega arith)) shows)))
 
-pub walk-same :
+walk-same :
     {A : Type 0} (R : Reading A) (rows rows' : Rows A) (k : SheetRecord) → ShowsOnly (SameRows rows rows') k
     → (m : ℕ) (n : Ref) → SameInput (walk R rows k m) (walk R rows' k m) n
 unfolding walk
@@ -160,7 +160,7 @@ row_by-same R val val' k row f same =
     ap (λ v. composed_by R (map v (terminals_of k))) (fun_ext same)
 
 -- a row whose nested sheets end is no other with more depth
-pub row_walk-deeper :
+row_walk-deeper :
     {A : Type 0} (R : Reading A) (sheets : List SheetRecord) (d more : ℕ) → d ≤ more
     → (k : ℕ) → SheetsEnd sheets d k → SameRows (row_walk R sheets more) (row_walk R sheets d) k
 unfolding row_walk SheetsEnd
@@ -177,7 +177,7 @@ row_walk-deeper R sheets (suc d) (suc more) le k ends row f =
     (row_walk-deeper R sheets d more (omega arith)) (sheet_at sheets k) ends)
     (depth_of (sheet_at sheets k)) t row f)
 
--- the printed rules, for every reading
+-- the rules of a column, a node and a row, for every reading
 
 pub whole_input-column :
     {A : Type 0} (R : Reading A) (sheets : List SheetRecord) (k c row : ℕ) (f : Dropped)
@@ -234,7 +234,7 @@ whole_row-row R sheets ends k row f =
     one_deeper d row f = unfold row_walk in refl
 
 -- a chain of pegs that ends has no other place with more depth
-pub place_up-deeper :
+place_up-deeper :
     (k : SheetRecord) (m more : ℕ) → m ≤ more → (peg : Option ℕ) → PegsEnd k m peg
     → (row : ℕ) → place_up more k peg row ≡ place_up m k peg row
 unfolding place_up PegsEnd

@@ -17,16 +17,16 @@ use Rattle.xs_meaning.proofs.Tints.{same_pixel_true, as_written-is_as_written, t
 
 -- the operation on a clear first pixel, and on a clear second one
 
-pub over-clear_first : (p : Channels) → IsPixel p → over_of clear p ≡ p
+over-clear_first : (p : Channels) → IsPixel p → over_of clear p ≡ p
 over-clear_first p pixel = simp (product-opaque, zero-add)
 
-pub over-clear_second : (p : Channels) → over_of p clear ≡ p
+over-clear_second : (p : Channels) → over_of p clear ≡ p
 over-clear_second p = simp (product-zero_left, add-zero)
 
-pub add-clear_first : (p : Channels) → IsPixel p → add_of clear p ≡ p
+add-clear_first : (p : Channels) → IsPixel p → add_of clear p ≡ p
 add-clear_first p pixel = search arith
 
-pub add-clear_second : (p : Channels) → IsPixel p → add_of p clear ≡ p
+add-clear_second : (p : Channels) → IsPixel p → add_of p clear ≡ p
 add-clear_second p pixel = search arith
 
 -- a clear first input, and a clear second one: what stays has the value of the pair

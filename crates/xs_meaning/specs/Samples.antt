@@ -11,7 +11,7 @@ use Rattle.xs_scene.specs.declared.node.Ref.TheVariants.{Column as ToColumn, Nod
 use Rattle.xs_scene.specs.declared.node.Node.{Node}
 use Rattle.xs_scene.specs.declared.node.Node.TheVariants.{Pair, Card, Shuffle, Blur, Keep, Delete}
 use Rattle.xs_scene.specs.Records.{StyleKeyRecord, PegKeyRecord, PegRecord, ExposureRecord, ColumnRecord, SheetRecord, SceneRecord}
-use Rattle.xs_meaning.specs.Drawings.{Pictures}
+use Rattle.xs_meaning.specs.Drawings.{Pictures, no_colours}
 
 abbrev pub style : ℕ → ℕ → ℕ → ℕ → Style
 style r g b a = record { r = r; g = g; b = b; a = a }
@@ -171,21 +171,25 @@ shuffled =
     (column_on 0 (shows 1 1 1 ∷ shows 2 3 0 ∷ []) ∷ []) (Shuffle (ToColumn 0) (2 ∷ 1 ∷ []) ∷ [])
     (Some (ToNode 0 ∷ [])))
 
--- peg 0 moves in a line from row 1 to row 4 and stays until row 9, peg 1 has the first two keys in the
--- other order, peg 2 holds, and peg 3 hangs on peg 2
+-- peg 0 moves in a line from row 1 to row 4, stays until row 9 and has a line key there without a next one,
+-- peg 1 has the first two keys in the other order, peg 2 holds, and peg 3 hangs on peg 2
 abbrev pub pegs : SheetRecord
 pegs =
     sheet
-    (root_peg (line_at 1 (pos 0) (pos 0) ∷ hold_at 4 (negsuc 4) (pos 10) ∷ hold_at 9 (pos 50) (pos 50) ∷ [])
+    (root_peg (line_at 1 (pos 0) (pos 0) ∷ hold_at 4 (negsuc 4) (pos 10) ∷ line_at 9 (pos 50) (pos 50) ∷ [])
     ∷ root_peg (hold_at 4 (negsuc 4) (pos 10) ∷ line_at 1 (pos 0) (pos 0) ∷ [])
     ∷ root_peg (hold_at 2 (pos 1) (pos 2) ∷ hold_at 4 (negsuc 4) (pos 10) ∷ [])
     ∷ child_peg 2 (hold_at 3 (pos 100) (pos 100) ∷ [])
     ∷ [])
     [] [] None
 
--- the camera at (2, 0)
+-- the camera at (2, 0), and from row 2 on at (0, 7)
 abbrev pub filmed : SceneRecord
-filmed = scene (Some 0) (sheet (root_peg (hold_at 1 (pos 2) (pos 0) ∷ []) ∷ []) (column (shows 1 1 0 ∷ []) ∷ []) [] None ∷ [])
+filmed =
+    scene (Some 0)
+    (sheet (root_peg (hold_at 1 (pos 2) (pos 0) ∷ hold_at 2 (pos 0) (pos 7) ∷ []) ∷ [])
+    (column (shows 1 2 0 ∷ []) ∷ []) [] None
+    ∷ [])
 
 -- a half clear drawing to the right of an opaque one
 abbrev pub two_columns : Option (List Ref) → SceneRecord
@@ -220,11 +224,14 @@ filtered_nested node keys =
     painted keys
     (sheet [] (column (shows_sheet 1 1 1 2 ∷ []) ∷ []) (node ∷ []) (Some (ToNode 0 ∷ [])) ∷ columns_alone held ∷ [])
 
--- a colour level of two drawings before a CM32 level, whose first drawing is shown
+-- a colour level of two drawings before a CM32 level, whose first drawing is shown, and a palette without
+-- styles before the one of that level
 abbrev pub two_levels : SceneRecord
 two_levels =
-    record (painted [] (columns_alone (column (record { from = 1; to = 1; shown = Drawing 1 0 } ∷ []) ∷ []) ∷ []))
-    { levels = record { kind = Colour; drawings = [] ∷ [] ∷ [] } ∷ record { kind = Cm32 0; drawings = [] ∷ [] } ∷ [] }
+    record (painted [] (columns_alone (column (record { from = 1; to = 1; shown = Drawing 1 0 } ∷ []) ∷ []) ∷ [])) {
+      palettes = no_colours ∷ (painted [] []).palettes;
+      levels = record { kind = Colour; drawings = [] ∷ [] ∷ [] } ∷ record { kind = Cm32 1; drawings = [] ∷ [] } ∷ [];
+    }
 
 -- every kind of node, on two sheets, with a peg that has a parent
 abbrev pub every_kind : List SheetRecord

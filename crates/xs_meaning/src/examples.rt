@@ -9,6 +9,7 @@ ghost use Rattle.xs_scene.specs.declared.node.Ref.TheVariants as to;
 ghost use Rattle.xs_scene.specs.declared.node.Node.TheVariants as node;
 ghost use Rattle.xs_meaning.specs.Ends.{AllEnd};
 ghost use Rattle.xs_meaning.specs.Expressions.{Clear, Leaf, Tinted, Pair, Card, Blur, root_of, reach_of, drawings_of};
+ghost use Rattle.xs_meaning.specs.Inputs.{inputs_of};
 ghost use Rattle.xs_meaning.specs.Places.{place_of};
 ghost use Rattle.xs_meaning.specs.Points.{Point, point, origin};
 ghost use Rattle.xs_meaning.specs.Rows.{frame_pixel};
@@ -33,6 +34,13 @@ pub fn boxes()
     ensures above { frame_pixel held_twice wide 2 (point (pos 5) (pos 8)) ≡ clear }
 {}
 
+/// A drawing without a file is clear, and so is one whose file is of another kind than its level.
+pub fn files_that_lack_or_do_not_fit()
+    ensures no_file { frame_pixel held_twice mixed_word 5 origin ≡ clear }
+    ensures words_in_a_colour_level { frame_pixel held_twice mixed_word 2 origin ≡ clear }
+    ensures pixels_in_a_cm32_level { frame_pixel (painted [] (columns_alone held ∷ [])) three_pixels 1 origin ≡ clear }
+{}
+
 /// An exposure of a sheet shows the row that is as far from `start` as the row is from the exposure's
 /// first. The places inside are those of the inner row.
 pub fn nested_sheets()
@@ -52,14 +60,15 @@ pub fn shuffles()
     ensures no_pixel { frame_pixel shuffled three_pixels 3 origin ≡ clear }
 {}
 
-/// A key holds until the next one; a line key moves in a straight line to it, rounded down.
+/// A key holds until the next one; a line key moves in a straight line to it, rounded down, and holds
+/// where there is none.
 pub fn places_by_keys()
     ensures line_starts { place_of pegs (Some 0) 1 ≡ origin }
     ensures line_after_a_third { place_of pegs (Some 0) 2 ≡ point (negsuc 1) (pos 3) }
     ensures line_after_two_thirds { place_of pegs (Some 0) 3 ≡ point (negsuc 3) (pos 6) }
     ensures line_ends { place_of pegs (Some 0) 4 ≡ point (negsuc 4) (pos 10) }
     ensures key_stays { place_of pegs (Some 0) 5 ≡ point (negsuc 4) (pos 10) }
-    ensures third_key { place_of pegs (Some 0) 9 ≡ point (pos 50) (pos 50) }
+    ensures last_line_key { place_of pegs (Some 0) 9 ≡ point (pos 50) (pos 50) }
     ensures any_order { place_of pegs (Some 1) 3 ≡ point (negsuc 3) (pos 6) }
     ensures before_the_first_key { place_of pegs (Some 2) 1 ≡ origin }
     ensures held { place_of pegs (Some 2) 3 ≡ point (pos 1) (pos 2) }
@@ -73,11 +82,13 @@ pub fn places_of_parents()
     ensures parent_moves { place_of pegs (Some 3) 4 ≡ point (pos 95) (pos 110) }
 {}
 
-/// The frame looks at the scene from the camera's place.
+/// The frame looks at the scene from the camera's place at its row.
 pub fn cameras()
     ensures root { root_of filmed 1 ≡ Leaf 0 (point (negsuc 1) (pos 0)) }
     ensures left { frame_pixel filmed three_pixels 1 (point (negsuc 1) (pos 0)) ≡ dark }
     ensures away { frame_pixel filmed three_pixels 1 origin ≡ clear }
+    ensures moved { root_of filmed 2 ≡ Leaf 0 (point (pos 0) (negsuc 6)) }
+    ensures below { frame_pixel filmed three_pixels 2 (point (pos 0) (negsuc 6)) ≡ dark }
 {}
 
 /// Columns further right lie above, as do later terminals of `out`; a column that is off counts only
@@ -104,6 +115,7 @@ pub fn pairs_and_cards()
     ensures pair { root_of (with_empty (node.Pair op.Mult (to.Column 0) (to.Column 0))) 1 ≡ Pair op.Mult (Leaf 0 origin) (Leaf 0 origin) }
     ensures card { root_of (with_empty (node.Card (style 255 0 0 128))) 1 ≡ Card (channels 128 0 0 128) }
     ensures clear_card { root_of (with_empty (node.Card (style 9 9 9 0))) 1 ≡ Clear }
+    ensures no_drawing { drawings_of (root_of (with_empty (node.Card (style 255 0 0 128))) 1) ≡ [] }
 {}
 
 /// What vanishes from a pair where the first input shows nothing (column 1).
@@ -130,7 +142,7 @@ pub fn pairs_with_clear_second()
     ensures matte_out { root_of (with_empty (node.Pair op.MatteOut (to.Column 0) (to.Column 1))) 1 ≡ Leaf 0 origin }
 {}
 
-/// A blur of radius 1 spreads a pixel over nine; reaches add up.
+/// A blur of radius 1 spreads a pixel over nine, and rounds down; reaches add up.
 pub fn blurs_of_pixels()
     ensures root { root_of (with_empty (node.Blur (to.Column 0) 1)) 1 ≡ Blur 1 (Leaf 0 origin) }
     ensures middle { frame_pixel (with_empty (node.Blur (to.Column 0) 1)) three_pixels 1 origin
@@ -139,6 +151,9 @@ pub fn blurs_of_pixels()
         ≡ channels 1 2 3 28 }
     ensures beyond { frame_pixel (with_empty (node.Blur (to.Column 0) 1)) three_pixels 1 (point (pos 2) (pos 0))
         ≡ clear }
+    ensures rounded_down { frame_pixel (with_empty (node.Blur (to.Column 0) 1)) wide 1 (point (pos 4) (pos 7))
+        ≡ channels 1 2 31 56 }
+    ensures drawing { drawings_of (root_of (with_empty (node.Blur (to.Column 0) 1)) 1) ≡ 0 ∷ [] }
     ensures of_nothing { root_of (with_empty (node.Blur (to.Column 1) 16)) 1 ≡ Clear }
     ensures reach { reach_of (root_of (blurs 4 (16 ∷ 16 ∷ 16 ∷ 16 ∷ [])) 1) ≡ 65 }
 {}
@@ -157,6 +172,7 @@ pub fn palette_filters()
         ≡ channels 155 0 0 155 }
     ensures tinted { root_of (painted [] (through (node.Delete (to.Column 0) (2 ∷ [])) ∷ [])) 1
         ≡ Tinted 0 origin (clear ∷ channels 255 0 0 255 ∷ []) }
+    ensures drawing { drawings_of (root_of (painted [] (through (node.Delete (to.Column 0) (2 ∷ [])) ∷ [])) 1) ≡ 0 ∷ [] }
     ensures unused { root_of (painted [] (through (node.Delete (to.Column 0) (7 ∷ [])) ∷ [])) 1 ≡ Leaf 0 origin }
     ensures second_level { root_of two_levels 1 ≡ Leaf 2 origin }
     ensures second_level_pixel { frame_pixel two_levels mixed_kinds 1 origin ≡ channels 155 0 100 255 }
@@ -177,7 +193,19 @@ pub fn palette_keys()
         ≡ channels 0 155 100 255 }
 {}
 
-/// A scene with every kind of node, a nested sheet and a peg with a parent has what checking finds.
+/// The nodes among the inputs of a node, the first input before the second.
+pub fn nodes_among_inputs()
+    ensures pair { inputs_of (node.Pair op.Over (to.Node 3) (to.Node 1)) ≡ 3 ∷ 1 ∷ [] }
+    ensures first_is_a_column { inputs_of (node.Pair op.Over (to.Column 3) (to.Node 1)) ≡ 1 ∷ [] }
+    ensures second_is_a_column { inputs_of (node.Pair op.Over (to.Node 3) (to.Column 1)) ≡ 3 ∷ [] }
+    ensures card { inputs_of (node.Card (style 255 0 0 255)) ≡ [] }
+    ensures shuffle { inputs_of (node.Shuffle (to.Node 3) (1 ∷ [])) ≡ 3 ∷ [] }
+    ensures blur { inputs_of (node.Blur (to.Node 3) 1) ≡ 3 ∷ [] }
+    ensures keep { inputs_of (node.Keep (to.Node 3) (1 ∷ [])) ≡ 3 ∷ [] }
+    ensures delete { inputs_of (node.Delete (to.Node 3) (1 ∷ [])) ≡ 3 ∷ [] }
+{}
+
+/// In a scene with every kind of node, a nested sheet and a peg with a parent every way ends.
 pub fn sample_scene_ends()
     ensures { AllEnd every_kind }
 {}
