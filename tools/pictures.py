@@ -113,6 +113,13 @@ def palette_of(colours, alphas):
 def read_png(path):
     with open(path, "rb") as file:
         data = file.read()
+    try:
+        return picture_of(data)
+    except (IndexError, KeyError, struct.error, zlib.error):
+        raise ValueError(path + " is damaged")
+
+
+def picture_of(data):
     header, colours, transparent, packed = None, b"", b"", b""
     for name, body in chunks(data):
         if name == b"IHDR":

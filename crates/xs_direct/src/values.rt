@@ -1,5 +1,6 @@
 //! The walk through a scene at one point: a row, its terminals, their columns and nodes, and the rows of
-//! nested sheets. `depth` counts nested sheets down, `below` the columns and nodes of one sheet.
+//! nested sheets. `depth` counts nested sheets down, `below` the columns and nodes of one sheet. As in the
+//! definitions, `k` is a sheet, `c` a column, `n` a column or node, `f` the filters and `p` the point.
 #![tactic(auto, using(crate::proofs::ValueLemmas::values))]
 
 ghost use Rattle.std.specs.Prelude.{◌≡◌, ◌+◌, ◌*◌, ◌^◌, ◌<◌, ◌≤◌, None, Some, IfSome, MatchOption, length, slice_get};

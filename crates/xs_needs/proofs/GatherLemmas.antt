@@ -1,5 +1,6 @@
 -- One step of the gathering of drawings
-use Rattle.std.proofs.Common.{◌≡◌, ◌<◌, ℕ, suc, cond, Result, Ok, Err, List, [], ◌∷◌, ◌++◌, length, drop, get_or, All, Contains, OnOk, append_assoc, append-nil, sym, ap, ◌∙◌, subst}
+use Rattle.std.proofs.Common.{◌≡◌, ◌<◌, ℕ, suc, true, cond, Result, Ok, Err, List, [], ◌∷◌, ◌++◌, length, drop, get_or, All, Contains, OnOk, append_assoc, append-nil, sym, ap, ◌∙◌, subst}
+use Rattle.std.specs.List.{list_any}
 use Rattle.std.proofs.Math.Seq.{drop-cons, drop-length}
 use Rattle.std.proofs.lemmas.Bool.{cond_both}
 use Rattle.std.proofs.lemmas.List.Elements.{All-push, Contains-append_left}
@@ -10,7 +11,12 @@ use Rattle.xs_meaning.specs.Palettes.{is_listed}
 use Rattle.xs_check.specs.Good.{files_of}
 use Rattle.xs_needs.specs.declared.found.Found.{Found}
 use Rattle.xs_needs.specs.declared.found.Gathered.{Gathered}
-use Rattle.xs_needs.specs.Found.{AreWhole, IsSound}
+use Rattle.indexmap.specs.IndexSet.{insert_key}
+use Rattle.xs_needs.specs.declared.found.Known.{Known}
+use Rattle.xs_needs.specs.declared.spot.Spot.{Spot}
+use Rattle.xs_needs.specs.Found.{AreWhole, IsSound, KeepsFlags, IsKept}
+use Rattle.xs_needs.specs.Spots.{same_spot}
+use Rattle.xs_needs.proofs.Remembered.{listed-kept}
 use Rattle.xs_schematic.specs.Once.{fresh, with_one, with_each}
 use Rattle.xs_needs.specs.Rules.{drawings_over}
 use Rattle.xs_needs.specs.Shown.{Showing, drawings_in, showing_staying, first_stays, second_stays}
@@ -24,7 +30,7 @@ OnOk-both (Err e) P Q R leads first second = tt
 abbrev pub OneAfterAnother : Type 0
 OneAfterAnother = (known xs ys : List ℕ) → fresh known (xs ++ ys) ≡ fresh known xs ++ fresh (known ++ fresh known xs) ys
 
-pub with_both :
+with_both :
     OneAfterAnother → (known xs ys : List ℕ) → with_each known (xs ++ ys) ≡ with_each (with_each known xs) ys
 with_both after known xs ys =
     ap (λ l. known ++ l) (after known xs ys)
@@ -94,3 +100,37 @@ sound-add s found g d sound there added same =
         let old = found.gathered.drawings.keys in
         cond_both (is_listed old d) old (old ++ d ∷ []) (λ (l : List ℕ). Contains l x)
         (λ listed. at) (λ new. Contains-append_left old (d ∷ []) x at)
+
+-- ---- nothing is forgotten
+
+pub kept-same : (found : Found) → IsKept found found
+kept-same found = record { flags = λ p known. known; whole = λ p there. there }
+
+pub kept-then : (first second third : Found) → IsKept first second → IsKept second third → IsKept first third
+kept-then first second third one other =
+    record {
+      flags = λ p known. other.flags p (one.flags p known);
+      whole = λ p there. other.whole p (one.whole p there);
+    }
+
+pub kept-flags : (found : Found) (known : Known) → KeepsFlags found.known known → IsKept found (record { known = known; gathered = found.gathered })
+kept-flags found known keeps = record { flags = keeps; whole = λ p there. there }
+
+pub kept-note :
+    (old found : Found) (g : Gathered) (noted : Spot) → IsKept old found
+    → g.whole.keys ≡ insert_key same_spot found.gathered.whole.keys noted
+    → IsKept old (record { known = found.known; gathered = g })
+kept-note old found g noted kept is =
+    record {
+      flags = kept.flags;
+      whole = λ p there. listed-kept found.gathered.whole.keys g.whole.keys noted p is (kept.whole p there);
+    }
+
+pub kept-add :
+    (found : Found) (g : Gathered) → g.whole.keys ≡ found.gathered.whole.keys
+    → IsKept found (record { known = found.known; gathered = g })
+kept-add found g same =
+    record {
+      flags = λ p known. known;
+      whole = λ p there. subst (λ (ps : List Spot). list_any (same_spot p) ps ≡ true) (sym same) there;
+    }

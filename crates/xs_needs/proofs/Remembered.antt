@@ -85,6 +85,29 @@ pub found-noted :
     (es new : List (Spot × Bool)) (p : Spot) (v : Bool) → new ≡ insert_entry same_spot es p v → IsSome (lookup (same_spot p) new)
 found-noted es new p v is = subst (λ (es : List (Spot × Bool)). IsSome (lookup (same_spot p) es)) (sym is) (lookup-insert es p v)
 
+-- one that was found is found after one more
+found_either :
+    (b v w : Bool) (o r : Option Bool) → (IsSome o → IsSome r) → IsSome (cond b (Some v) o) → IsSome (cond b (Some w) r)
+found_either true v w o r stays found = refl
+found_either false v w o r stays found = stays found
+
+lookup-kept :
+    (es : List (Spot × Bool)) (p q : Spot) (v : Bool) → IsSome (lookup (same_spot q) es)
+    → IsSome (lookup (same_spot q) (insert_entry same_spot es p v))
+lookup-kept [] p q v found = cc
+lookup-kept (e ∷ es) p q v found =
+    cond_both (same_spot p e.0) ((e.0, v) ∷ es) (e ∷ insert_entry same_spot es p v) (λ (new : List (Spot × Bool)). IsSome (lookup (same_spot q) new))
+    (λ passes. found_either (same_spot q e.0) e.1 v (lookup (same_spot q) es) (lookup (same_spot q) es) (λ stays. stays) found)
+    (λ fails.
+    found_either (same_spot q e.0) e.1 e.1 (lookup (same_spot q) es) (lookup (same_spot q) (insert_entry same_spot es p v))
+    (lookup-kept es p q v) found)
+
+pub found-kept :
+    (es new : List (Spot × Bool)) (p q : Spot) (v : Bool) → new ≡ insert_entry same_spot es p v
+    → IsSome (lookup (same_spot q) es) → IsSome (lookup (same_spot q) new)
+found-kept es new p q v is found =
+    subst (λ (es : List (Spot × Bool)). IsSome (lookup (same_spot q) es)) (sym is) (lookup-kept es p q v found)
+
 -- ---- spots whose drawings are all there
 
 -- one more
@@ -113,3 +136,12 @@ listed-noted ps new p is =
     list_any-last ps =
         list_any-append (same_spot p) ps (p ∷ [])
         ∙ ap (λ b. list_any (same_spot p) ps || (b || false)) (same p) ∙ or-true (list_any (same_spot p) ps)
+
+-- one that was noted before is found
+pub listed-kept :
+    (ps new : List Spot) (p q : Spot) → new ≡ insert_key same_spot ps p → list_any (same_spot q) ps ≡ true
+    → list_any (same_spot q) new ≡ true
+listed-kept ps new p q is listed =
+    subst (λ (ps : List Spot). list_any (same_spot q) ps ≡ true) (sym is)
+    (cond_both (list_any (same_spot p) ps) ps (ps ++ p ∷ []) (λ (ps : List Spot). list_any (same_spot q) ps ≡ true) (λ passes. listed)
+    (λ fails. list_any-append (same_spot q) ps (p ∷ []) ∙ ap (λ b. b || list_any (same_spot q) (p ∷ [])) listed))

@@ -32,7 +32,7 @@ use Rattle.xs_needs.specs.Rules.{spot, input_spot, showing_at, shown, rule_of_se
 
 -- ---- what an expression shows
 
-pub is_none-showing_of : (e : Expr) → is_none (showing_of e) ≡ is_clear e
+is_none-showing_of : (e : Expr) → is_none (showing_of e) ≡ is_clear e
 is_none-showing_of Clear = refl
 is_none-showing_of (Leaf d at) = refl
 is_none-showing_of (Tinted d at tint) = refl
@@ -40,7 +40,7 @@ is_none-showing_of (Card pixel) = refl
 is_none-showing_of (Pair op a b) = refl
 is_none-showing_of (Blur n a) = refl
 
-pub drawings_in-showing_of : (e : Expr) → drawings_in (showing_of e) ≡ drawings_of e
+drawings_in-showing_of : (e : Expr) → drawings_in (showing_of e) ≡ drawings_of e
 drawings_in-showing_of Clear = refl
 drawings_in-showing_of (Leaf d at) = refl
 drawings_in-showing_of (Tinted d at tint) = refl
@@ -112,7 +112,7 @@ agrees s =
       delete = λ styles f g same. ap (deleting styles) same;
     }
 
-pub showing-row_expr :
+showing-row_expr :
     (s : SceneRecord) (k row : ℕ) (f : Dropped) (o : Point)
     → showing_of (row_expr s k row f o) ≡ whole_row (by_showing s.levels) s.sheets k row f
 showing-row_expr s k row f =

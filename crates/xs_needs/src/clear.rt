@@ -4,7 +4,7 @@ ghost use Rattle.std.specs.Prelude.{◌≡◌, ◌≤◌, ◌<◌, ◌-◌, All,
 ghost use Rattle.std.specs.List.{list_all};
 ghost use Rattle.indexmap.specs.IndexMap.{get};
 ghost use Rattle.xs_meaning.specs.Ends.{AllEnd};
-ghost use Rattle.xs_needs.specs.Found.{AreRight};
+ghost use Rattle.xs_needs.specs.Found.{AreRight, KeepsFlags};
 ghost use Rattle.xs_needs.specs.Rules.{AreThere, LeadsTo, WaysEnd, is_clear_at, shown, showing_by, input_spot};
 ghost use Rattle.xs_needs.specs.Spots.{same_spot};
 
@@ -32,6 +32,7 @@ pub fn is_clear(
     requires known { AreRight s.now known.old.flags.entries }
     ensures clear { IfOk result (λ clear. clear ≡ is_clear_at s.now spot) }
     ensures known { OnOk result (AreRight s.now known.new.flags.entries) }
+    ensures kept { OnOk result (KeepsFlags known.old known.new) }
     ensures noted { OnOk result (IsSome (get same_spot known.new.flags spot)) }
 {
     if let Some(clear) = known.find(spot) {
@@ -60,6 +61,7 @@ fn is_clear_by(
     requires known { AreRight s.now known.old.flags.entries }
     ensures clear { IfOk result (λ clear. clear ≡ is_none (showing_by s.now (shown s.now) spot.sheet spot.row rule.now)) }
     ensures known { OnOk result (AreRight s.now known.new.flags.entries) }
+    ensures kept { OnOk result (KeepsFlags known.old known.new) }
 {
     match rule {
         Rule::Clear => Ok(true),
@@ -90,6 +92,7 @@ fn are_clear(
     requires known { AreRight s.now known.old.flags.entries }
     ensures clear { IfOk result (λ clear. clear ≡ list_all (λ t. is_clear_at s.now (input_spot spot.sheet t spot.row)) terminals.now) }
     ensures known { OnOk result (AreRight s.now known.new.flags.entries) }
+    ensures kept { OnOk result (KeepsFlags known.old known.new) }
 {
     for &terminal in terminals {
         let at = input(spot.sheet, terminal, spot.row);

@@ -4,7 +4,7 @@ ghost use Rattle.std.specs.Prelude.{◌≡◌, ◌≤◌, ◌<◌, ◌-◌, [], 
 ghost use Rattle.indexmap.specs.IndexSet.{contains};
 ghost use Rattle.xs_meaning.specs.Ends.{AllEnd};
 ghost use Rattle.xs_meaning.specs.Expressions.{staying as staying_of};
-ghost use Rattle.xs_needs.specs.Found.{IsSound};
+ghost use Rattle.xs_needs.specs.Found.{IsKept, IsSound};
 ghost use Rattle.xs_schematic.specs.Once.{with_each};
 ghost use Rattle.xs_needs.specs.Rules.{AreThere, LeadsTo, WaysEnd, drawings_at, is_clear_at, drawings_over, shown, showing_by, input_spot};
 ghost use Rattle.xs_needs.specs.Spots.{same_spot};
@@ -38,6 +38,7 @@ pub fn gather(
     ensures drawings { OnOk result (found.new.gathered.drawings.keys
         ≡ with_each found.old.gathered.drawings.keys (drawings_at s.now spot)) }
     ensures sound { OnOk result (IsSound s.now found.new) }
+    ensures kept { OnOk result (IsKept found.old found.new) }
     ensures noted { OnOk result (IsTrue (contains same_spot found.new.gathered.whole spot)) }
 {
     each_number_is_taken_once();
@@ -68,6 +69,7 @@ fn gather_by(
         ≡ with_each found.old.gathered.drawings.keys
         (drawings_in (showing_by s.now (shown s.now) spot.sheet spot.row rule.now))) }
     ensures sound { OnOk result (IsSound s.now found.new) }
+    ensures kept { OnOk result (IsKept found.old found.new) }
 {
     match rule {
         Rule::Clear | Rule::Pixel => Ok(()),
@@ -104,6 +106,7 @@ fn gather_pair(
         (drawings_in (showing_staying (staying_of op (is_clear_at s.now inputs.0) (is_clear_at s.now inputs.1))
         (shown s.now inputs.0) (shown s.now inputs.1)))) }
     ensures sound { OnOk result (IsSound s.now found.new) }
+    ensures kept { OnOk result (IsKept found.old found.new) }
 {
     each_number_is_taken_once();
     let (first, second) = inputs;
@@ -131,6 +134,7 @@ fn gather_if(
     ensures drawings { OnOk result (found.new.gathered.drawings.keys
         ≡ with_each found.old.gathered.drawings.keys (if wanted then drawings_at s.now spot else [])) }
     ensures sound { OnOk result (IsSound s.now found.new) }
+    ensures kept { OnOk result (IsKept found.old found.new) }
 {
     if wanted {
         gather(alloc, s, left, spot, found)
@@ -158,6 +162,7 @@ fn gather_over(
         ≡ with_each found.old.gathered.drawings.keys
         (drawings_over (λ t. shown s.now (input_spot spot.sheet t spot.row)) terminals.now)) }
     ensures sound { OnOk result (IsSound s.now found.new) }
+    ensures kept { OnOk result (IsKept found.old found.new) }
 {
     each_number_is_taken_once();
     let mut below = terminals.len();

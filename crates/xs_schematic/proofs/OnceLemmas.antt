@@ -19,7 +19,7 @@ pub Contains-listed : (known : List ℕ) (d : ℕ) → is_listed known d ≡ tru
 Contains-listed [] d listed = cc
 Contains-listed (x ∷ xs) d listed = contains_first x xs d (eqb x d) refl listed (Contains-listed xs d)
 
-pub listed-Contains : (known : List ℕ) (d : ℕ) → Contains known d → is_listed known d ≡ true
+listed-Contains : (known : List ℕ) (d : ℕ) → Contains known d → is_listed known d ≡ true
 listed-Contains known d at =
     list_any_at (λ m. eqb m d) known at.0 d at.1 (eq-eqb (get_or known at.0 d) d at.2)
 

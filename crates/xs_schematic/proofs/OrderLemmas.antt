@@ -104,7 +104,7 @@ IsOrder-visits_of k orderable =
       inputs_first = all.begun.after;
     }
 
-pub visit_all-append :
+visit_all-append :
     (visit : ℕ → List ℕ → List ℕ) (ms ns order : List ℕ) → visit_all visit (ms ++ ns) order ≡ visit_all visit ns (visit_all visit ms order)
 visit_all-append visit [] ns order = refl
 visit_all-append visit (m ∷ ms) ns order = visit_all-append visit ms ns (visit m order)

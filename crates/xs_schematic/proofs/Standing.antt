@@ -21,7 +21,7 @@ pub IsBegun-nil : (nodes : List Node) → IsBegun nodes []
 IsBegun-nil nodes =
     record { below = λ k d lt. absurd (omega arith); once = λ i j d lt long. absurd (omega arith); after = λ i lt. absurd (omega arith) }
 
-pub IsBegun-push :
+IsBegun-push :
     (nodes : List Node) (order : List ℕ) (n : ℕ) → n < length nodes → (Contains order n → ⊥)
     → All (Contains order) (inputs_in nodes n) → IsBegun nodes order → IsBegun nodes (order ++ n ∷ [])
 IsBegun-push nodes order n node new inputs begun =

@@ -66,7 +66,7 @@ all-with_each k orderable m step (x ∷ xs) each order begun =
     ∙ sym (with_each-append order (made_from k.nodes m x) (flat_map (made_from k.nodes m) xs))
 
 -- where the nodes on its way end, a visit puts each of them behind the order
-pub visit_node-with_each :
+visit_node-with_each :
     (k : SheetRecord) → IsOrderable k → (m n : ℕ) → n < length k.nodes → NodesEnd k m (ToNode n)
     → (order : List ℕ) → IsBegun k.nodes order → VisitsEach k.nodes m n order
 unfolding NodesEnd visit_node made_from

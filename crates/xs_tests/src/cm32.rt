@@ -1,4 +1,4 @@
-//! Words from outside, which the clauses of this crate have to mean.
+//! Words from outside, which the clauses of `xs_cm32` have to mean.
 
 use std::test::Fail;
 use xs_cm32::{Cm32, colour};

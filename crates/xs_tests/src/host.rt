@@ -1,3 +1,5 @@
+//! A file and a line in the folder in which the test runs.
+
 use std::test::Fail;
 use std::{fs, io};
 use xs_host::{FolderLibrary, FolderShelf, OutNotes};

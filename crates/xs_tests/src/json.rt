@@ -1,3 +1,5 @@
+//! Paths, fields and faults of a JSON text.
+
 use serde_json::Value;
 use std::test::Fail;
 use xs_json::{

@@ -127,7 +127,7 @@ fn extreme_channels_are_as_in_the_plain_rows(rt: HostRuntime) -> Result<(), Fail
 }
 
 #[test]
-fn rows_of_equal_pixels(rt: HostRuntime) -> Result<(), Fail> {
+fn equal_pixels_make_rows_of_equal_pixels(rt: HostRuntime) -> Result<(), Fail> {
     let alloc = rt.alloc();
     let upper = Pixel::new(100, 0, 0, 200).ok_or("no pixel")?;
     let lower = Pixel::new(50, 60, 0, 100).ok_or("no pixel")?;
@@ -145,7 +145,7 @@ fn rows_of_equal_pixels(rt: HostRuntime) -> Result<(), Fail> {
 }
 
 #[test]
-fn filled_and_coloured_rows(rt: HostRuntime) -> Result<(), Fail> {
+fn filled_and_coloured_rows_have_one_pixel(rt: HostRuntime) -> Result<(), Fail> {
     let alloc = rt.alloc();
     let red = Style {
         r: 255,

@@ -1,3 +1,5 @@
+//! A library, a shelf and notes in memory, of which one call fails.
+
 use std::alloc::{AllocError, Global};
 use std::test::Fail;
 use xs_outside::{

@@ -1,4 +1,4 @@
-//! Palettes from outside, which the clauses of this crate have to mean.
+//! Palettes from outside, which the clauses of `xs_palette` have to mean.
 
 use std::alloc::{AllocError, Global};
 use std::test::Fail;

@@ -1,4 +1,4 @@
-//! Vectors from outside, which the clauses of this crate have to mean.
+//! Vectors from outside, which the clauses of `xs_pixel` have to mean.
 
 use std::alloc::{AllocError, AllocFailed};
 use std::test::Fail;

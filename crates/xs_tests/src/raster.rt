@@ -1,3 +1,5 @@
+//! A tile of one pixel on a clear frame.
+
 use std::alloc::Global;
 use std::test::Fail;
 use xs_raster::{Raster, Tile, TileRef};

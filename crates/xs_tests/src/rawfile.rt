@@ -1,3 +1,5 @@
+//! A level file of one pixel, whole and with its faults, and what is made of it.
+
 use std::alloc::Global;
 use std::marker::Brand;
 use std::test::Fail;

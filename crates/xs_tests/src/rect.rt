@@ -1,3 +1,5 @@
+//! Rectangles at the edges of their range, and frames cut into tiles.
+
 ghost use Rattle.std.specs.Prelude.{◌≤◌};
 
 use std::alloc::{AllocError, Global};

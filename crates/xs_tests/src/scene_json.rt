@@ -1,3 +1,5 @@
+//! A scene text that is read and written, and one with faults.
+
 use std::test::Fail;
 use xs_json::FieldFault;
 use xs_scene_json::{decode, encode};

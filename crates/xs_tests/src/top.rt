@@ -1,3 +1,5 @@
+//! Renders of two sections over a library in memory.
+
 use std::alloc::Global;
 use std::test::Fail;
 use xs_outside::{MemLibrary, MemNotes, MemShelf, Object};

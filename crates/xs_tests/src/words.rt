@@ -58,7 +58,7 @@ const COMMANDS: [&str; 7] = [
 ];
 
 #[test]
-fn first_faults(rt: HostRuntime) -> Result<(), Fail> {
+fn the_first_fault_is_told(rt: HostRuntime) -> Result<(), Fail> {
     for (line, usage) in FAULTS {
         let fault = fault_of(rt.alloc(), line)?;
         assert_eq!(rt; fault, Some(WordsFault::Usage(usage)), "{line}");
@@ -67,7 +67,7 @@ fn first_faults(rt: HostRuntime) -> Result<(), Fail> {
 }
 
 #[test]
-fn commands(rt: HostRuntime) -> Result<(), Fail> {
+fn each_command_is_read(rt: HostRuntime) -> Result<(), Fail> {
     for line in COMMANDS {
         assert_eq!(rt; fault_of(rt.alloc(), line)?, None, "{line}");
     }
@@ -75,7 +75,7 @@ fn commands(rt: HostRuntime) -> Result<(), Fail> {
 }
 
 #[test]
-fn leading_zeros(rt: HostRuntime) -> Result<(), Fail> {
+fn numbers_may_begin_with_zeros(rt: HostRuntime) -> Result<(), Fail> {
     let words = words_of(rt.alloc(), "dry one.json 0007 000000012")?;
     let Command::Dry { scene, from, to } = read_words(rt.alloc(), words.as_slice())? else {
         return Err(Fail::from("another command"));

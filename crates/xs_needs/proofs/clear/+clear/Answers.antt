@@ -4,7 +4,7 @@ use Rattle.xs_scene.specs.declared.node.Ref.{Ref}
 use Rattle.xs_needs.specs.declared.rule.Rule.{Rule}
 use Rattle.xs_needs.specs.Shown.{Showing}
 use Rattle.xs_needs.specs.Rules.{shown, showing_by, LeadsTo, WaysEnd, input_spot}
-use Rattle.xs_needs.proofs.Remembered.{right-noted, right-found, found-noted}
+use Rattle.xs_needs.proofs.Remembered.{right-noted, right-found, found-noted, found-kept}
 use Rattle.xs_needs.proofs.Showings.{shown-rule, composed-none}
 use Rattle.xs_needs.proofs.Ways.{WaysEnd-positive, WaysEnd-step}
 use Rattle.xs_needs.proofs.clear.+clear.Goals as goal
@@ -42,6 +42,13 @@ is_clear-returns-clause-known t c =
     ∙ ap (λ (r : Rule). is_none (showing_by s (shown s) spot.sheet spot.row r)) c.in_ok-rule.ensures.rule
     ∙ sym (ap is_none (shown-rule s c.requires.all_end spot)))
 
+pub is_clear-returns-in-Some-clause-kept : goal.is_clear-returns-in-Some-clause-kept
+is_clear-returns-in-Some-clause-kept t c = λ p found. found
+
+pub is_clear-returns-clause-kept : goal.is_clear-returns-clause-kept
+is_clear-returns-clause-kept t c =
+    λ p found. found-kept _ _ c.args.spot p _ c.in_ok-note.ensures (c.in_ok-clear.ensures.kept p found)
+
 pub is_clear-returns-clause-noted : goal.is_clear-returns-clause-noted
 is_clear-returns-clause-noted t c = found-noted _ _ c.args.spot _ c.in_ok-note.ensures
 
@@ -57,3 +64,7 @@ is_clear_by-returns-in-Over-clause-clear t c =
     ∙ ap (λ (r : Rule). is_none (showing_by s (shown s) spot.sheet spot.row r)) (sym c.in-Over.is)
     in
     subst (λ (b : Bool). IfOk c.are_clear.result (λ clear. clear ≡ b)) same c.are_clear.ensures.clear
+
+pub is_clear_by-returns-in_ok-second_clear-in-Pair-clause-kept : goal.is_clear_by-returns-in_ok-second_clear-in-Pair-clause-kept
+is_clear_by-returns-in_ok-second_clear-in-Pair-clause-kept t c =
+    λ p found. c.in_ok-second_clear-in-Pair.ensures.kept p (c.in_ok-first_clear-in-Pair.ensures.kept p found)

@@ -1,6 +1,6 @@
 use Rattle.std.proofs.Common.{◌≡◌, ◌+◌, ◌*◌, true, take}
 use Rattle.std.specs.List.{list_all}
-use Rattle.xs_needs.specs.Found.{AreRight}
+use Rattle.xs_needs.specs.Found.{AreRight, KeepsFlags}
 use Rattle.xs_needs.specs.Rules.{is_clear_at, input_spot}
 use Rattle.xs_needs.proofs.clear.+clear.Given as goal
 
@@ -17,6 +17,7 @@ abbrev pub invariant-are_clear-loop-terminal : goal.invariant-are_clear-loop-ter
 invariant-are_clear-loop-terminal l =
     record {
       known : AreRight l.s l.known.flags.entries;
+      kept : KeepsFlags l.fn.known l.known;
       clear :
           list_all (λ t. is_clear_at l.s (input_spot l.spot.sheet t l.spot.row)) (take l.terminal-index l.terminals)
           ≡ true;

@@ -1,4 +1,5 @@
 use Rattle.std.proofs.Common.{◌≡◌, ◌≤◌, ◌<◌, ◌-◌, ◌⊎◌, ⊎_elim, ℕ, suc, length, drop, Bool, List, [], ◌++◌, append-nil, OnOk, IsTrue, cond, ap₂, All, Contains, sym, ap, ◌∙◌, subst, arith, rules}
+use Rattle.std.proofs.lemmas.Result.{IfOk-weaker}
 use Rattle.indexmap.specs.IndexSet.{contains}
 use Rattle.xs_needs.specs.declared.rule.Rule.{Rule}
 use Rattle.xs_needs.specs.declared.rule.Rule.TheVariants.{Clear, Pixel}
@@ -7,13 +8,14 @@ use Rattle.xs_meaning.specs.Ends.{AllEnd}
 use Rattle.xs_meaning.specs.Expressions.{staying}
 use Rattle.xs_scene.specs.declared.node.Ref.{Ref}
 use Rattle.xs_scene.specs.Records.{SceneRecord}
+use Rattle.xs_needs.specs.declared.found.Found.{Found}
 use Rattle.xs_needs.specs.declared.spot.Spot.{Spot}
-use Rattle.xs_needs.specs.Found.{AreWhole, IsSound}
+use Rattle.xs_needs.specs.Found.{AreWhole, IsKept, IsSound}
 use Rattle.xs_needs.specs.Spots.{same_spot}
 use Rattle.xs_schematic.specs.Once.{with_each}
 use Rattle.xs_needs.specs.Rules.{shown, showing_by, rule_of, drawings_at, is_clear_at, drawings_over, AreThere, LeadsTo, WaysEnd, input_spot}
 use Rattle.xs_needs.specs.Shown.{Showing, drawings_in, first_stays, second_stays}
-use Rattle.xs_needs.proofs.GatherLemmas.{OnOk-both, with_none, gathered-pair, over-start, over-step, sound-note, sound-add}
+use Rattle.xs_needs.proofs.GatherLemmas.{OnOk-both, with_none, gathered-pair, over-start, over-step, sound-note, sound-add, kept-same, kept-then, kept-flags, kept-note, kept-add}
 use Rattle.xs_needs.proofs.Remembered.{whole-noted, whole-found, listed-noted}
 use Rattle.xs_needs.proofs.Showings.{shown-rule, composed-drawings}
 use Rattle.xs_needs.proofs.Ways.{WaysEnd-positive, WaysEnd-step}
@@ -148,6 +150,7 @@ gather_over-loop-below-init t c =
     record {
       inside = omega arith;
       sound = c.requires.sound;
+      kept = kept-same c.args.found.now;
       drawings = over-start c.args.found.now.gathered.drawings.keys (λ t. shown s (input_spot spot.sheet t spot.row)) c.args.terminals.now;
     }
 
@@ -166,6 +169,7 @@ gather_over-loop-below-preserved t c =
     record {
       inside = omega arith;
       sound = c.in_ok-gather.ensures.sound;
+      kept = kept-then c.args.found.now c.loop-below.found c.gather.new.found c.loop-below.invariant.kept c.in_ok-gather.ensures.kept;
       drawings =
           c.in_ok-gather.ensures.drawings
           ∙ ap₂ (λ (xs : List ℕ) (p : Spot). with_each xs (drawings_at s p)) before c.input-at.ensures
@@ -193,3 +197,45 @@ gather_pair-returns-clause-drawings t c =
     in
     subst (λ (xs : List ℕ). OnOk c.gather_if-2.result (c.gather_if-2.new.found.gathered.drawings.keys ≡ xs)) all
     c.gather_if-2.ensures.drawings
+
+-- ---- nothing is forgotten
+
+pub gather-returns-then-has_all_of-clause-kept : goal.gather-returns-then-has_all_of-clause-kept
+gather-returns-then-has_all_of-clause-kept t c = kept-same c.args.found.now
+
+pub gather-returns-clause-kept : goal.gather-returns-clause-kept
+gather-returns-clause-kept t c =
+    let old = c.args.found.now in
+    let new = c.gather_by.new.found in
+    OnOk-both c.note.result _ _ (IsKept old (record { known = new.known; gathered = c.note.new.self }))
+    (λ same is. kept-note old new c.note.new.self c.args.spot c.in_ok-gather_by.ensures.kept is)
+    c.note.ensures.drawings c.note.ensures.whole
+
+pub gather_by-returns-in-Clear-clause-kept : goal.gather_by-returns-in-Clear-clause-kept
+gather_by-returns-in-Clear-clause-kept t c = kept-same c.args.found.now
+
+pub gather_by-returns-in-Clear-2-clause-kept : goal.gather_by-returns-in-Clear-2-clause-kept
+gather_by-returns-in-Clear-2-clause-kept t c = kept-same c.args.found.now
+
+pub gather_by-returns-in-Drawing-clause-kept : goal.gather_by-returns-in-Drawing-clause-kept
+gather_by-returns-in-Drawing-clause-kept t c =
+    let old = c.args.found.now in
+    OnOk-both c.add.result _ _ (IsKept old (record { known = old.known; gathered = c.add.new.self }))
+    (λ added same. kept-add old c.add.new.self same)
+    c.add.ensures.drawings c.add.ensures.whole
+
+pub gather_if-returns-else-wanted-clause-kept : goal.gather_if-returns-else-wanted-clause-kept
+gather_if-returns-else-wanted-clause-kept t c = kept-same c.args.found.now
+
+pub gather_pair-returns-clause-kept : goal.gather_pair-returns-clause-kept
+gather_pair-returns-clause-kept t c =
+    let old = c.args.found.now in
+    let asked : Found = record { known = c.is_clear.new.known; gathered = old.gathered } in
+    let both : Found = record { known = c.is_clear-2.new.known; gathered = old.gathered } in
+    let gathered = c.gather_if.new.found in
+    let first =
+    kept-then old asked gathered (kept-flags old asked.known c.in_ok-first_clear.ensures.kept)
+    (kept-then asked both gathered (kept-flags asked both.known c.in_ok-second_clear.ensures.kept) c.in_ok-gather_if.ensures.kept)
+    in
+    IfOk-weaker c.gather_if-2.result _ (λ done. IsKept old c.gather_if-2.new.found)
+    (λ done second. kept-then old gathered c.gather_if-2.new.found first second) c.gather_if-2.ensures.kept

@@ -1,5 +1,5 @@
 use Rattle.std.proofs.Common.{◌≡◌, ◌≤◌, ◌+◌, ◌*◌, drop, length}
-use Rattle.xs_needs.specs.Found.{IsSound}
+use Rattle.xs_needs.specs.Found.{IsKept, IsSound}
 use Rattle.xs_schematic.specs.Once.{with_each}
 use Rattle.xs_needs.specs.Rules.{drawings_over, shown, input_spot}
 use Rattle.xs_needs.proofs.gather.+gather.Given as goal
@@ -27,6 +27,7 @@ invariant-gather_over-loop-below l =
     record {
       inside : l.below ≤ length l.terminals;
       sound : IsSound l.s l.found;
+      kept : IsKept l.fn.found l.found;
       drawings :
           l.found.gathered.drawings.keys
           ≡ with_each l.fn.found.gathered.drawings.keys
