@@ -2,11 +2,12 @@
 ghost use Rattle.std.specs.Prelude.{ℕ};
 ghost use Rattle.std.specs.Prelude.{List as Items};
 ghost use Rattle.xs_check.specs.Finding.{Finding, Finds, EachAt, TellsFirst};
+ghost use Rattle.xs_json.specs.Objects.{path_of};
 ghost use Rattle.xs_json.specs.Paths.{index_at};
 ghost use Rattle.xs_json.specs.Reading.{Tells};
 
 use std::alloc::Global;
-use xs_json::{FieldFault, Path, Place, SceneCode};
+use xs_json::{Field, FieldFault, Path, Place, SceneCode};
 
 /// What is required of each element of a list, and told by its first fault.
 pub trait Requirement<T> {
@@ -20,7 +21,7 @@ pub trait Requirement<T> {
 
 /// The first fault of the elements of the list at `at`, in their order.
 #[tactic(auto, unfolding(crate::specs::Finding::EachAt))]
-pub fn each<T, R: Requirement<T>>(
+fn each_at<T, R: Requirement<T>>(
     alloc: Global,
     required: &R,
     items: &[T],
@@ -40,27 +41,42 @@ pub fn each<T, R: Requirement<T>>(
     Ok(())
 }
 
-/// The fault at an element of a list.
-fn fault_of(alloc: Global, code: SceneCode, at: &Path, i: usize) -> FieldFault
-    ensures { Tells code (index_at at.now i) result }
+/// The first fault of the elements of the list under a field of the object at `at`, in their order.
+pub fn each<T, R: Requirement<T>>(
+    alloc: Global,
+    required: &R,
+    items: &[T],
+    at: &Path,
+    field: Field,
+) -> Result<(), FieldFault>
+    ensures { Finds result (EachAt (path_of field at.now) (R.finds required.now) items.now) }
 {
-    match u32::try_from(i) {
-        Ok(i) => Place::item(at, i).fault(alloc, code),
-        Err(_) => FieldFault::Memory,
-    }
+    let list = Place::key(at, field).path(alloc)?;
+    each_at(alloc, required, items, &list)
 }
 
-/// The fault at the first of some elements, if there is one.
+/// The fault at an element of the list under a field of the object at `at`.
+fn fault_of(alloc: Global, code: SceneCode, at: &Path, field: Field, i: usize) -> FieldFault
+    ensures { Tells code (index_at (path_of field at.now) i) result }
+{
+    let (Ok(list), Ok(i)) = (Place::key(at, field).path(alloc), u32::try_from(i)) else {
+        return FieldFault::Memory;
+    };
+    Place::item(&list, i).fault(alloc, code)
+}
+
+/// The fault at the first of some elements of the list under a field of the object at `at`, if there is one.
 pub fn tell_first(
     alloc: Global,
     first: Option<usize>,
     code: SceneCode,
     at: &Path,
+    field: Field,
 ) -> Result<(), FieldFault>
-    ensures { TellsFirst code at.now first result }
+    ensures { TellsFirst code (path_of field at.now) first result }
 {
     match first {
-        Some(i) => Err(fault_of(alloc, code, at, i)),
+        Some(i) => Err(fault_of(alloc, code, at, field, i)),
         None => Ok(()),
     }
 }

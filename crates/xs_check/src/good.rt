@@ -12,7 +12,7 @@ use std::alloc::Global;
 use std::marker::Model;
 use xs_graph::laws::{chains_are_told_link_by_link, chains_without_a_cycle_are_short};
 use xs_index::Index;
-use xs_json::{Field, FieldFault, Path, Place};
+use xs_json::{FieldFault, Path};
 use xs_scene::{Scene, Sheet};
 
 /// A scene in which every number names a thing, nothing stands twice where one may, nothing leads back to
@@ -44,11 +44,10 @@ fn first_fault(alloc: Global, scene: &Scene) -> Result<(), FieldFault>
     references(alloc, scene)?;
     overlaps(alloc, scene)?;
     let top = Path::root(alloc);
-    let sheets = Place::key(&top, Field::Sheets).path(alloc)?;
-    peg_cycles(alloc, scene, &sheets)?;
-    node_cycles(alloc, scene, &sheets)?;
-    sheet_cycles(alloc, scene, &sheets)?;
-    long_chains(alloc, scene, &sheets)
+    peg_cycles(alloc, scene, &top)?;
+    node_cycles(alloc, scene, &top)?;
+    sheet_cycles(alloc, scene, &top)?;
+    long_chains(alloc, scene, &top)
 }
 
 /// The checked scene, or its first fault in the order of the passes: TooMany where a list is too long;

@@ -1,6 +1,7 @@
 //! What stands where something earlier stands.
 ghost use Rattle.xs_check.specs.Finding.{Finds};
 ghost use Rattle.xs_check.specs.Passes.{EachApart, Overlaps};
+ghost use Rattle.xs_json.specs.Objects.{path_of};
 
 use crate::apart::{Apart, first_shared};
 use crate::files::files_apart;
@@ -9,12 +10,18 @@ use std::alloc::Global;
 use xs_json::{Field, FieldFault, Path, Place, SceneCode};
 use xs_scene::{Colours, Column, Peg, Scene, Sheet};
 
-/// The first element that does not stand apart from each earlier one.
-fn each_apart<T: Apart>(alloc: Global, items: &[T], at: &Path) -> Result<(), FieldFault>
-    ensures { Finds result (EachApart T.apart at.now items.now) }
+/// The first element of the list under a field of the object at `at` that does not stand apart from each
+/// earlier one.
+fn each_apart<T: Apart>(
+    alloc: Global,
+    items: &[T],
+    at: &Path,
+    field: Field,
+) -> Result<(), FieldFault>
+    ensures { Finds result (EachApart T.apart (path_of field at.now) items.now) }
 {
     let first = first_shared(alloc, items)?;
-    tell_first(alloc, first, SceneCode::Overlap, at)
+    tell_first(alloc, first, SceneCode::Overlap, at, field)
 }
 
 /// The keys of a palette.
@@ -28,8 +35,7 @@ impl Requirement<Colours> for PaletteOverlaps {
 
     fn look(&self, alloc: Global, item: &Colours, at: &Place) -> Result<(), FieldFault> {
         let path = at.path(alloc)?;
-        let keys = Place::key(&path, Field::Keys).path(alloc)?;
-        each_apart(alloc, item.keys.items(), &keys)
+        each_apart(alloc, item.keys.items(), &path, Field::Keys)
     }
 }
 
@@ -44,8 +50,7 @@ impl Requirement<Peg> for PegOverlaps {
 
     fn look(&self, alloc: Global, item: &Peg, at: &Place) -> Result<(), FieldFault> {
         let path = at.path(alloc)?;
-        let keys = Place::key(&path, Field::Keys).path(alloc)?;
-        each_apart(alloc, item.keys.items(), &keys)
+        each_apart(alloc, item.keys.items(), &path, Field::Keys)
     }
 }
 
@@ -60,8 +65,7 @@ impl Requirement<Column> for ColumnOverlaps {
 
     fn look(&self, alloc: Global, item: &Column, at: &Place) -> Result<(), FieldFault> {
         let path = at.path(alloc)?;
-        let cells = Place::key(&path, Field::Cells).path(alloc)?;
-        each_apart(alloc, item.cells.items(), &cells)
+        each_apart(alloc, item.cells.items(), &path, Field::Cells)
     }
 }
 
@@ -76,10 +80,14 @@ impl Requirement<Sheet> for SheetOverlaps {
 
     fn look(&self, alloc: Global, item: &Sheet, at: &Place) -> Result<(), FieldFault> {
         let path = at.path(alloc)?;
-        let pegs = Place::key(&path, Field::Pegs).path(alloc)?;
-        each(alloc, &PegOverlaps, item.pegs.items(), &pegs)?;
-        let columns = Place::key(&path, Field::Columns).path(alloc)?;
-        each(alloc, &ColumnOverlaps, item.columns.items(), &columns)
+        each(alloc, &PegOverlaps, item.pegs.items(), &path, Field::Pegs)?;
+        each(
+            alloc,
+            &ColumnOverlaps,
+            item.columns.items(),
+            &path,
+            Field::Columns,
+        )
     }
 }
 
@@ -88,9 +96,19 @@ pub fn overlaps(alloc: Global, scene: &Scene) -> Result<(), FieldFault>
     ensures { Finds result (Overlaps scene.now) }
 {
     let top = Path::root(alloc);
-    let palettes = Place::key(&top, Field::Palettes).path(alloc)?;
-    each(alloc, &PaletteOverlaps, scene.palettes.items(), &palettes)?;
+    each(
+        alloc,
+        &PaletteOverlaps,
+        scene.palettes.items(),
+        &top,
+        Field::Palettes,
+    )?;
     files_apart(alloc, scene.levels.items())?;
-    let sheets = Place::key(&top, Field::Sheets).path(alloc)?;
-    each(alloc, &SheetOverlaps, scene.sheets.items(), &sheets)
+    each(
+        alloc,
+        &SheetOverlaps,
+        scene.sheets.items(),
+        &top,
+        Field::Sheets,
+    )
 }

@@ -76,12 +76,12 @@ impl Requirement<Colours> for PaletteReferences {
 
     fn look(&self, alloc: Global, item: &Colours, at: &Place) -> Result<(), FieldFault> {
         let path = at.path(alloc)?;
-        let keys = Place::key(&path, Field::Keys).path(alloc)?;
         each(
             alloc,
             &KeyReferences { palette: item },
             item.keys.items(),
-            &keys,
+            &path,
+            Field::Keys,
         )
     }
 }
@@ -182,12 +182,12 @@ impl Requirement<Column> for ColumnReferences<'_> {
         let (scene, sheet) = (self.scene, self.sheet);
         may_name(alloc, at, Field::Peg, sheet.pegs.items(), item.peg)?;
         let path = at.path(alloc)?;
-        let cells = Place::key(&path, Field::Cells).path(alloc)?;
         each(
             alloc,
             &ShownReferences { scene },
             item.cells.items(),
-            &cells,
+            &path,
+            Field::Cells,
         )
     }
 }
@@ -254,10 +254,16 @@ impl Requirement<Node> for NodeReferences<'_> {
 
 /// What the list of what is rendered of a sheet names.
 fn terminals(alloc: Global, sheet: &Sheet, at: &Path) -> Result<(), FieldFault>
-    ensures { Finds result (IfThere (EachAt at.now (RefReference sheet.now)) sheet.now.out) }
+    ensures { Finds result (IfThere (EachAt (path_of Field.Out at.now) (RefReference sheet.now)) sheet.now.out) }
 {
     match &sheet.out {
-        Some(list) => each(alloc, &RefReferences { sheet }, list.items(), at),
+        Some(list) => each(
+            alloc,
+            &RefReferences { sheet },
+            list.items(),
+            at,
+            Field::Out,
+        ),
         None => Ok(()),
     }
 }
@@ -276,29 +282,28 @@ impl Requirement<Sheet> for SheetReferences<'_> {
     fn look(&self, alloc: Global, item: &Sheet, at: &Place) -> Result<(), FieldFault> {
         let scene = self.scene;
         let path = at.path(alloc)?;
-        let pegs = Place::key(&path, Field::Pegs).path(alloc)?;
         each(
             alloc,
             &PegReferences { sheet: item },
             item.pegs.items(),
-            &pegs,
+            &path,
+            Field::Pegs,
         )?;
-        let columns = Place::key(&path, Field::Columns).path(alloc)?;
         each(
             alloc,
             &ColumnReferences { scene, sheet: item },
             item.columns.items(),
-            &columns,
+            &path,
+            Field::Columns,
         )?;
-        let nodes = Place::key(&path, Field::Nodes).path(alloc)?;
         each(
             alloc,
             &NodeReferences { sheet: item },
             item.nodes.items(),
-            &nodes,
+            &path,
+            Field::Nodes,
         )?;
-        let out = Place::key(&path, Field::Out).path(alloc)?;
-        terminals(alloc, item, &out)
+        terminals(alloc, item, &path)
     }
 }
 
@@ -331,21 +336,26 @@ pub fn references(alloc: Global, scene: &Scene) -> Result<(), FieldFault>
 {
     let top = Path::root(alloc);
     camera(alloc, scene, &Place::key(&top, Field::Camera))?;
-    let palettes = Place::key(&top, Field::Palettes).path(alloc)?;
-    each(alloc, &PaletteReferences, scene.palettes.items(), &palettes)?;
-    let levels = Place::key(&top, Field::Levels).path(alloc)?;
+    each(
+        alloc,
+        &PaletteReferences,
+        scene.palettes.items(),
+        &top,
+        Field::Palettes,
+    )?;
     each(
         alloc,
         &LevelReferences { scene },
         scene.levels.items(),
-        &levels,
+        &top,
+        Field::Levels,
     )?;
-    let sheets = Place::key(&top, Field::Sheets).path(alloc)?;
-    has_sheet(alloc, scene, &Place::here(&sheets))?;
+    has_sheet(alloc, scene, &Place::key(&top, Field::Sheets))?;
     each(
         alloc,
         &SheetReferences { scene },
         scene.sheets.items(),
-        &sheets,
+        &top,
+        Field::Sheets,
     )
 }

@@ -111,9 +111,13 @@ impl Requirement<Sheet> for SheetSizes {
             &Place::key(&path, Field::Columns),
             &item.columns,
         )?;
-        let nodes = Place::key(&path, Field::Nodes).path(alloc)?;
-        at_most(alloc, MOST_NODES, &Place::here(&nodes), &item.nodes)?;
-        each(alloc, &NodeSizes, item.nodes.items(), &nodes)?;
+        at_most(
+            alloc,
+            MOST_NODES,
+            &Place::key(&path, Field::Nodes),
+            &item.nodes,
+        )?;
+        each(alloc, &NodeSizes, item.nodes.items(), &path, Field::Nodes)?;
         out_size(alloc, &Place::key(&path, Field::Out), &item.out)
     }
 }
@@ -123,8 +127,18 @@ pub fn sizes(alloc: Global, scene: &Scene) -> Result<(), FieldFault>
     ensures { Finds result (Sizes scene.now) }
 {
     let top = Path::root(alloc);
-    let palettes = Place::key(&top, Field::Palettes).path(alloc)?;
-    each(alloc, &PaletteSizes, scene.palettes.items(), &palettes)?;
-    let sheets = Place::key(&top, Field::Sheets).path(alloc)?;
-    each(alloc, &SheetSizes, scene.sheets.items(), &sheets)
+    each(
+        alloc,
+        &PaletteSizes,
+        scene.palettes.items(),
+        &top,
+        Field::Palettes,
+    )?;
+    each(
+        alloc,
+        &SheetSizes,
+        scene.sheets.items(),
+        &top,
+        Field::Sheets,
+    )
 }

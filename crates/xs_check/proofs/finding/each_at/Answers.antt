@@ -2,7 +2,7 @@ use Rattle.std.proofs.Common.{◌≡◌, ◌<◌, true, false, is_err, length, a
 use Rattle.xs_json.specs.Paths.{index_at}
 use Rattle.xs_check.specs.Finding.{EachAt}
 use Rattle.xs_check.proofs.Findings.{each_passed, each_failed, finds_none}
-use Rattle.xs_check.proofs.finding.each.Goals as goal
+use Rattle.xs_check.proofs.finding.each_at.Goals as goal
 
 pub returns-then-is_err : goal.returns-then-is_err
 unfolding EachAt

@@ -2,7 +2,7 @@ use Rattle.std.proofs.Common.{drop}
 use Rattle.xs_json.specs.Paths.{index_at}
 use Rattle.xs_check.specs.Finding.{Each}
 use Rattle.xs_check.proofs.Findings.{Covers}
-use Rattle.xs_check.proofs.finding.each.Given as goal
+use Rattle.xs_check.proofs.finding.each_at.Given as goal
 
 abbrev pub invariant-loop-i : goal.invariant-loop-i
 invariant-loop-i g l =
