@@ -1,4 +1,4 @@
-ghost use Rattle.std.specs.Prelude.{◌≡◌, ◌≤ℤ◌, IfOk};
+ghost use Rattle.std.specs.Prelude.{◌≤ℤ◌, IfOk};
 ghost use Rattle.serde_json.specs.View.{view, items_view};
 ghost use Rattle.xs_json.specs.Reading.{Gives};
 ghost use Rattle.xs_json.specs.Objects.{whole_at, text_at, list_at, flag_at};

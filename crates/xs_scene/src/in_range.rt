@@ -13,7 +13,8 @@ use crate::scene::Camera;
 use crate::sheet::Sheet;
 use xs_pixel::{List, Style};
 
-/// A part of a scene. Its types keep the ranges of its numbers; `in_range` tells contracts so.
+/// A part of a scene. Its types keep the ranges of its numbers; `in_range` tells contracts so. A body that
+/// reads a field and drops it is there for the range alone, which comes with the value.
 pub(crate) trait Ranged: Sized {
     ghost is_in_range: { Self → Type 0 };
 

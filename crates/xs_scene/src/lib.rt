@@ -1,5 +1,6 @@
 //! The scene: exposure sheets with their pegs, columns and nodes, the levels of drawings and the
-//! palettes. Each type keeps its ranges; whether what a number names is there is not its concern.
+//! palettes. Each struct keeps its ranges, those of the enums in it included; whether what a number names
+//! is there is not its concern.
 #![tactic(auto)]
 
 mod colours;

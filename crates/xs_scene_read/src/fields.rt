@@ -2,6 +2,7 @@ ghost use Rattle.std.specs.Prelude.{◌≡◌, ◌≤◌, [], false, IfOk, IfSom
 ghost use Rattle.serde_json.specs.View.{members_view};
 ghost use Rattle.xs_json.specs.Reading.{Gives};
 ghost use Rattle.xs_json.specs.Objects.{flag_at};
+ghost use Rattle.xs_scene.specs.Ranges.{IsReference};
 ghost use Rattle.xs_scene_text.specs.Fields.{field, optional_field, field_or, list_of, number_at, reference_at, none_of, form_at};
 
 use crate::element::{Element, number, numbers};
@@ -110,7 +111,7 @@ pub fn reference_needed(
 ) -> Result<u32, FieldFault>
     ensures exact { Gives (λ n. n) result
         (field k reference_at at.now (members_view map.now.entries)) }
-    ensures range { IfOk result (λ n. n ≤ 1000000000) }
+    ensures range { IfOk result IsReference }
 {
     number_needed(alloc, map, at, k, 0, GREATEST_REFERENCE)
 }
@@ -124,7 +125,7 @@ pub fn reference_if_there(
 ) -> Result<Option<u32>, FieldFault>
     ensures exact { Gives (λ o. o) result
         (optional_field k reference_at at.now (members_view map.now.entries)) }
-    ensures range { IfOk result (λ o. IfSome o (λ n. n ≤ 1000000000)) }
+    ensures range { IfOk result (λ o. IfSome o IsReference) }
 {
     match optional(map, k) {
         Some(v) => Ok(Some(number(alloc, v, &Place::key(at, k), 0, GREATEST_REFERENCE)?)),

@@ -15,6 +15,9 @@ use xs_scene::range::{GREATEST_RADIUS, LAST_ROW, MOST_STYLES};
 use xs_scene::{Node, Ref};
 use xs_scene_text::{Work, work_named};
 
+/// A ref and a style are read alike in both formats, so either serves to read them.
+const ANY_FORMAT: u32 = 1;
+
 /// A ref to a node.
 #[tactic(auto, unfolding(xs_scene_text::specs::SceneText::node_number_at))]
 fn node_number(alloc: Global, map: &Map<String, Value>, at: &Path) -> Result<Ref, FieldFault>
@@ -73,8 +76,8 @@ fn pair(alloc: Global, v: &Value, at: &Path, op: Op) -> Result<Node, FieldFault>
     let map = object(alloc, v, at, &fields, &fields)?;
     Ok(Node::Pair {
         op,
-        first: needed(alloc, 1, map, at, Field::First)?,
-        second: needed(alloc, 1, map, at, Field::Second)?,
+        first: needed(alloc, ANY_FORMAT, map, at, Field::First)?,
+        second: needed(alloc, ANY_FORMAT, map, at, Field::Second)?,
     })
 }
 
@@ -87,7 +90,7 @@ fn card(alloc: Global, v: &Value, at: &Path) -> Result<Node, FieldFault>
 {
     let fields = [Field::Op, Field::Rgba];
     let map = object(alloc, v, at, &fields, &fields)?;
-    Ok(Node::Card(needed(alloc, 1, map, at, Field::Rgba)?))
+    Ok(Node::Card(needed(alloc, ANY_FORMAT, map, at, Field::Rgba)?))
 }
 
 /// A node that shows its input at other rows.
@@ -100,7 +103,7 @@ fn shuffle(alloc: Global, v: &Value, at: &Path) -> Result<Node, FieldFault>
     let fields = [Field::Op, Field::Input, Field::List];
     let map = object(alloc, v, at, &fields, &fields)?;
     Ok(Node::Shuffle {
-        input: needed(alloc, 1, map, at, Field::Input)?,
+        input: needed(alloc, ANY_FORMAT, map, at, Field::Input)?,
         list: numbers_needed(alloc, map, at, Field::List, 1, LAST_ROW)?,
     })
 }
@@ -114,7 +117,7 @@ fn blur(alloc: Global, v: &Value, at: &Path) -> Result<Node, FieldFault>
     let fields = [Field::Op, Field::Input, Field::Radius];
     let map = object(alloc, v, at, &fields, &fields)?;
     Ok(Node::Blur {
-        input: needed(alloc, 1, map, at, Field::Input)?,
+        input: needed(alloc, ANY_FORMAT, map, at, Field::Input)?,
         radius: number_needed(alloc, map, at, Field::Radius, 1, GREATEST_RADIUS)?,
     })
 }
@@ -128,7 +131,7 @@ fn filter(alloc: Global, v: &Value, at: &Path) -> Result<(Ref, List<u32>), Field
 {
     let fields = [Field::Op, Field::Input, Field::Styles];
     let map = object(alloc, v, at, &fields, &fields)?;
-    let input = needed(alloc, 1, map, at, Field::Input)?;
+    let input = needed(alloc, ANY_FORMAT, map, at, Field::Input)?;
     let styles = numbers_needed(alloc, map, at, Field::Styles, 0, MOST_STYLES - 1)?;
     Ok((input, styles))
 }

@@ -25,9 +25,9 @@ pub record IsShallow (k : ℕ) (d : Data) : Type 0 where
   pub no_float : has_float d ≡ false
   pub within : depth d ≤ k
 
-pub record AreShallow (k : ℕ) (ms : Members) : Type 0 where
-  pub no_float : members_have_float ms ≡ false
-  pub within : members_depth ms ≤ k
+record AreShallow (k : ℕ) (ms : Members) : Type 0 where
+  no_float : members_have_float ms ≡ false
+  within : members_depth ms ≤ k
 
 -- ---- members
 

@@ -17,7 +17,7 @@ passed_from_ok : (test : Bool) (reading : Result Command Usage) (fault : Usage) 
 passed_from_ok true reading fault command e = (refl, e)
 passed_from_ok false reading fault command e = absurd cc
 
-pub all_passed : (checks : List Check) (meant command : Command) → checked checks meant ≡ Ok command → AllPassed checks × (meant ≡ command)
+all_passed : (checks : List Check) (meant command : Command) → checked checks meant ≡ Ok command → AllPassed checks × (meant ≡ command)
 all_passed [] meant command e = (tt, cc)
 all_passed (check ∷ rest) meant command e =
     let here = passed_from_ok check.passes (checked rest meant) check.fault command e in
@@ -81,7 +81,7 @@ again_in_range words command e =
       base_from_test _ t.1.1.1.1.1.1.1.1.0,
     )
 
-pub reading_in_range : (words : Words) → GivesInRange (reading_of words)
+reading_in_range : (words : Words) → GivesInRange (reading_of words)
 unfolding reading_of
 reading_in_range words =
     one_of _ _ _ GivesInRange (refused _)

@@ -6,7 +6,7 @@ use Rattle.std.proofs.lemmas.Bool.{and_parts, leb-true}
 use Rattle.std.proofs.lemmas.Str.Parse.{IsNumeralModel, IsDigitsTest, numerals_by_value, parse_gives, digits_value_short}
 use Rattle.xs_words.specs.Grammar.{is_number, number_of, is_within}
 
-pub digits_test : IsDigitsTest (λ ds. list_all is_ascii_digit ds ≡ true)
+digits_test : IsDigitsTest (λ ds. list_all is_ascii_digit ds ≡ true)
 digits_test = search rules
 
 -- the digits of a number write its value
