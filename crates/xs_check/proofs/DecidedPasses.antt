@@ -1,5 +1,5 @@
--- Each pass of checking finds something, or that there is nothing.
-use Rattle.std.proofs.Common.{ℕ, List}
+-- Each pass of checking finds one thing, a fault or nothing.
+use Rattle.std.proofs.Common.{◌≡◌, ℕ, true, List, refl}
 use Rattle.std.proofs.lemmas.Bool.{cases_eq}
 use Rattle.xs_json.specs.declared.code.SceneCode.{SceneCode}
 use Rattle.xs_scene.specs.declared.level.Kind.{Kind}
@@ -12,6 +12,7 @@ use Rattle.xs_scene.specs.declared.node.Node.{Node}
 use Rattle.xs_scene.specs.declared.node.Node.TheVariants.{Pair, Card, Shuffle, Blur, Keep, Delete}
 use Rattle.xs_scene.specs.Records.{SceneRecord, SheetRecord, ColoursRecord, StyleKeyRecord, LevelRecord, PegRecord, PegKeyRecord, ColumnRecord, ExposureRecord}
 use Rattle.xs_check.specs.Passes.{AtMost, PaletteSizes, NodeSizes, SheetSizes, Sizes, Names, CameraReference, PaletteReferences, KindReference, LevelReference, ShownReferences, CellReferences, PegReference, ColumnReferences, RefReference, NodeReferences, SheetReferences, References, EachApart, FilesApart, SheetOverlaps, Overlaps, NoCycles, NoLongChains, LongChains, Checking}
+use Rattle.xs_check.specs.Codes.{is_of_checking}
 use Rattle.xs_index.specs.Apart.{AreApart, DifferInRow, DifferInRowOrStyle}
 use Rattle.xs_graph.specs.Paths.{Links, LiesOnCycle, HasChain}
 use Rattle.xs_graph.specs.Settled.{Settled}
@@ -21,7 +22,7 @@ use Rattle.xs_check.proofs.Deciding.{Decision, decide_nothing, decide_unless, de
 -- ---- sizes
 
 at_most : {A : Type 0} (limit : ℕ) (at : List ℕ) (xs : List A) → Decision (AtMost limit at xs)
-at_most limit at xs = decide_unless _ _ _ (settled_at_most _ _)
+at_most limit at xs = decide_unless _ _ _ refl (settled_at_most _ _)
 
 palette_sizes : (at : List ℕ) (c : ColoursRecord) → Decision (PaletteSizes at c)
 palette_sizes at c = decide_then _ _ (at_most _ _ _) (at_most _ _ _)
@@ -46,7 +47,7 @@ sizes s = decide_then _ _ (decide_each_at _ palette_sizes _ _) (decide_each_at _
 -- ---- references
 
 names : {A : Type 0} (at : List ℕ) (things : List A) (number : ℕ) → Decision (Names at things number)
-names at things number = decide_unless _ _ _ (settled_below _ _)
+names at things number = decide_unless _ _ _ refl (settled_below _ _)
 
 camera_reference : (s : SceneRecord) → Decision (CameraReference s)
 camera_reference s = decide_if_there _ (names _ _) _
@@ -101,14 +102,14 @@ references s =
     decide_then _ _ (camera_reference s)
     (decide_then _ _ (decide_each_at _ palette_references _ _)
     (decide_then _ _ (decide_each_at _ (level_reference s) _ _)
-    (decide_then _ _ (decide_unless _ _ _ (settled_below _ _)) (decide_each_at _ (sheet_references s) _ _))))
+    (decide_then _ _ (decide_unless _ _ _ refl (settled_below _ _)) (decide_each_at _ (sheet_references s) _ _))))
 
 -- ---- overlaps
 
 each_apart : {A : Type 0} (Apart : A → A → Type 0) → ((a b : A) → Settled (Apart a b)) → (at : List ℕ) (xs : List A) → Decision (EachApart Apart at xs)
 unfolding EachApart
 each_apart Apart settled at xs =
-    decide_each _ (λ i x. decide_unless _ _ _ (settled_all _ (λ earlier. settled earlier x) _)) _ _
+    decide_each _ (λ i x. decide_unless _ _ _ refl (settled_all _ (λ earlier. settled earlier x) _)) _ _
 
 keys_differ : (a b : StyleKeyRecord) → Settled (DifferInRowOrStyle a b)
 keys_differ a b = settled_if _ _ (cases_eq a.style b.style) (settled_differ a.row b.row)
@@ -122,7 +123,7 @@ cells_apart a b = settled_apart a.from a.to b.from b.to
 files_apart : (levels : List LevelRecord) → Decision (FilesApart levels)
 unfolding FilesApart
 files_apart levels =
-    decide_each _ (λ d file. decide_unless _ _ _ (settled_all _ (λ earlier. settled_texts_differ earlier file) _)) _ _
+    decide_each _ (λ d file. decide_unless _ _ _ refl (settled_all _ (λ earlier. settled_texts_differ earlier file) _)) _ _
 
 sheet_overlaps : (at : List ℕ) (k : SheetRecord) → Decision (SheetOverlaps at k)
 sheet_overlaps at k =
@@ -143,15 +144,16 @@ CyclesSettled = (links : Links) (a : ℕ) → Settled (LiesOnCycle links a)
 abbrev pub ChainsSettled : Type 0
 ChainsSettled = (links : Links) (steps a : ℕ) → Settled (HasChain links steps a)
 
-no_cycles : CyclesSettled → {A : Type 0} (code : SceneCode) (links : Links) (at : List ℕ) (things : List A) → Decision (NoCycles code links at things)
+no_cycles : CyclesSettled → {A : Type 0} (code : SceneCode) (links : Links) (at : List ℕ) (things : List A) → is_of_checking code ≡ true
+    → Decision (NoCycles code links at things)
 unfolding NoCycles
-no_cycles cycles code links at things =
-    decide_each _ (λ i thing. decide_unless _ _ _ (settled_not _ (cycles links i))) _ _
+no_cycles cycles code links at things kept =
+    decide_each _ (λ i thing. decide_unless _ _ _ kept (settled_not _ (cycles links i))) _ _
 
 no_long_chains : ChainsSettled → {A : Type 0} (most : ℕ) (links : Links) (at : List ℕ) (things : List A) → Decision (NoLongChains most links at things)
 unfolding NoLongChains
 no_long_chains chains most links at things =
-    decide_each _ (λ i thing. decide_unless _ _ _ (settled_not _ (chains links most i))) _ _
+    decide_each _ (λ i thing. decide_unless _ _ _ refl (settled_not _ (chains links most i))) _ _
 
 long_chains : ChainsSettled → (s : SceneRecord) → Decision (LongChains s)
 long_chains chains s =
@@ -162,6 +164,6 @@ checking cycles chains s =
     decide_then _ _ (sizes s)
     (decide_then _ _ (references s)
     (decide_then _ _ (overlaps s)
-    (decide_then _ _ (decide_each_at _ (λ at k. no_cycles cycles _ _ _ _) _ _)
-    (decide_then _ _ (decide_each_at _ (λ at k. no_cycles cycles _ _ _ _) _ _)
-    (decide_then _ _ (no_cycles cycles _ _ _ _) (long_chains chains s))))))
+    (decide_then _ _ (decide_each_at _ (λ at k. no_cycles cycles _ _ _ _ refl) _ _)
+    (decide_then _ _ (decide_each_at _ (λ at k. no_cycles cycles _ _ _ _ refl) _ _)
+    (decide_then _ _ (no_cycles cycles _ _ _ _ refl) (long_chains chains s))))))

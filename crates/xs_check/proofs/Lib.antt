@@ -10,7 +10,5 @@ pub mod Readings
 pub mod StyleKeys
 pub mod FirstShared
 pub mod Settled
-pub mod Single
-pub mod SinglePasses
 pub mod Deciding
 pub mod DecidedPasses

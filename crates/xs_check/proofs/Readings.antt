@@ -63,17 +63,6 @@ module _ (s : SceneRecord) (good : IsGood s) where
       of_column (λ column. AllPairs AreApart column.cells) (λ i j d less below. absurd (omega arith))
       (λ i d below j column inside. ((good.sheets i d below).columns j column inside).apart)
 
-  pub keys_differ : (k i : ℕ) → AllPairs DifferInRow (peg_at (sheet_at s.sheets k) i).keys
-  keys_differ k i =
-      All-slice_index_or (λ (peg : PegRecord). AllPairs DifferInRow peg.keys) (sheet_at s.sheets k).pegs i no_peg (λ i j d less below. absurd (omega arith))
-      (All-slice_index_or (λ (k : SheetRecord). All (λ (peg : PegRecord). AllPairs DifferInRow peg.keys) k.pegs) s.sheets k no_sheet (λ i d below. absurd (omega arith))
-      (λ i d below j peg inside. ((good.sheets i d below).pegs j peg inside).differ))
-
-  pub style_keys_differ : (p : ℕ) → AllPairs DifferInRowOrStyle (get_or s.palettes p no_colours).keys
-  style_keys_differ p =
-      All-slice_index_or (λ (c : ColoursRecord). AllPairs DifferInRowOrStyle c.keys) s.palettes p no_colours (λ i j d less below. absurd (omega arith))
-      (λ i d below. (good.palettes i d below).differ)
-
 -- ---- the chain of a peg
 
 pub place_up-zero : (k : SheetRecord) (peg : Option ℕ) (row most : ℕ) → most ≡ 0 → origin ≡ place_up most k peg row

@@ -19,4 +19,6 @@ pub fn checking_finds_one_thing()
 /// A fault that checking finds has one of the codes of checking.
 pub fn checking_finds_its_codes()
     ensures { (s : SceneRecord) (fault : SceneFault) → Checking s (Some fault) → is_of_checking fault.code ≡ true }
-{}
+{
+    cycles_and_chains_are_settled();
+}
