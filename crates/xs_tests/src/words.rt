@@ -1,7 +1,8 @@
-//! Command lines with the command or the first fault that they have.
+//! Command lines with the command or the first fault that they have, and the names in them.
 
 use std::alloc::{AllocError, Global};
 use std::test::Fail;
+use xs_scene::Name;
 use xs_words::{Command, Usage, WordsFault, read_words};
 
 fn words_of(alloc: Global, line: &str) -> Result<Vec<String>, AllocError> {
@@ -82,5 +83,13 @@ fn numbers_may_begin_with_zeros(rt: HostRuntime) -> Result<(), Fail> {
     };
     assert_eq!(rt; scene.text(), "one.json");
     assert_eq!(rt; (from, to), (7, 12));
+    Ok(())
+}
+
+#[test]
+fn a_name_is_copied(rt: HostRuntime) -> Result<(), Fail> {
+    let text = String::from_str(rt.alloc(), "one.json")?;
+    let name = Name::new(text).ok_or("the text is a name")?;
+    assert_eq!(rt; name.copy(rt.alloc())?.text(), "one.json");
     Ok(())
 }
