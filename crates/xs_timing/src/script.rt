@@ -3,7 +3,7 @@
 use std::alloc::{AllocError, Global};
 
 /// How a text is laid out.
-#[derive(Clone, Copy, Drop)]
+#[derive(Clone, Copy)]
 pub enum Layout {
     /// Each member and each element on a line of its own, two blanks further in at each level.
     Indented,
@@ -11,250 +11,145 @@ pub enum Layout {
     OneLine,
 }
 
-/// A text as far as it is written.
-#[derive(Drop)]
-struct Script {
-    alloc: Global,
-    text: String,
-    depth: u32,
-    layout: Layout,
+/// A palette of twelve styles.
+const PALETTE: &str =
+    "[[46,30,48,255],[214,92,64,255],[196,78,56,255],[250,214,178,255],[64,168,160,255],[74,92,150,255],[236,226,206,255],[70,76,118,255],[120,72,52,255],[240,160,132,255],[255,255,255,255],[46,30,48,255]]";
+
+/// A level of twelve drawings.
+const LEVEL: &str =
+    r#"{"kind":"cm32","palette":0,"drawings":["leg.0001.xrl","leg.0002.xrl","leg.0003.xrl","leg.0004.xrl","leg.0005.xrl","leg.0006.xrl","leg.0007.xrl","leg.0008.xrl","leg.0009.xrl","leg.0010.xrl","leg.0011.xrl","leg.0012.xrl"]}"#;
+
+const PEG: &str = r#"{"keys":["#;
+
+const PEG_KEY: &str = r#"{"row":11,"x":0,"y":3}"#;
+
+const COLUMN: &str = r#"{"peg":1,"cells":["#;
+
+const CELL: &str = r#"{"from":11,"to":12,"level":4,"drawing":5}"#;
+
+/// What ends a sheet behind its columns: nodes, and what is rendered of them.
+const NODES: &str =
+    r#"],"nodes":[{"op":"card","rgba":[168,150,190,255]},{"op":"mult","first":{"column":1},"second":{"node":0}},{"op":"mult","first":{"column":3},"second":{"node":0}}],"out":[{"node":0},{"node":1},{"node":2}]}"#;
+
+/// Writes what is in front, so many copies of a piece with commas between them, and what is behind.
+fn push_copies(
+    text: &mut String,
+    front: &str,
+    (piece, count): (&str, usize),
+    behind: &str,
+) -> Result<(), AllocError> {
+    text.push_str(front)?;
+    for copy in 0..count {
+        if copy > 0 {
+            text.push(',')?;
+        }
+        text.push_str(piece)?;
+    }
+    text.push_str(behind)
 }
 
-impl Script {
-    fn new(alloc: Global, layout: Layout) -> Script {
-        Script {
-            alloc,
-            text: String::new(alloc),
-            depth: 0,
-            layout,
-        }
-    }
+/// A peg or a column, which begins like this, with so many keys or cells.
+fn list_of(alloc: Global, front: &str, piece: &str, count: usize) -> Result<String, AllocError> {
+    let mut text = String::new(alloc);
+    push_copies(&mut text, front, (piece, count), "]}")?;
+    Ok(text)
+}
 
-    /// Begins a line, where the layout has lines.
-    fn begin_line(&mut self) -> Result<(), AllocError> {
-        if let Layout::OneLine = self.layout {
-            return Ok(());
-        }
-        self.text.push('\n')?;
-        for _ in 0..self.depth {
-            self.text.push_str("  ")?;
-        }
-        Ok(())
-    }
+/// Writes the pegs of a sheet: one that moves and two that hardly do.
+fn push_pegs(text: &mut String, alloc: Global) -> Result<(), AllocError> {
+    let moving = list_of(alloc, PEG, PEG_KEY, 12)?;
+    let still = list_of(alloc, PEG, PEG_KEY, 2)?;
+    push_copies(text, r#"{"pegs":["#, (moving.as_str(), 1), ",")?;
+    push_copies(text, "", (still.as_str(), 2), "],")
+}
 
-    /// Ends the element before, if there is one.
-    fn separate(&mut self) -> Result<(), AllocError> {
-        match self.text.as_bytes().last() {
-            None | Some(b'{' | b'[') => Ok(()),
-            _ => match self.layout {
-                Layout::Indented => self.text.push(','),
-                Layout::OneLine => self.text.push_str(", "),
-            },
-        }
-    }
+/// Writes the columns of a sheet: five of moving drawings and four of still ones.
+fn push_columns(text: &mut String, alloc: Global) -> Result<(), AllocError> {
+    let moving = list_of(alloc, COLUMN, CELL, 12)?;
+    let still = list_of(alloc, COLUMN, CELL, 1)?;
+    push_copies(text, r#""columns":["#, (moving.as_str(), 5), ",")?;
+    push_copies(text, "", (still.as_str(), 4), NODES)
+}
 
-    /// Writes an element or a member.
-    fn put(&mut self, part: &str) -> Result<(), AllocError> {
-        self.separate()?;
-        self.begin_line()?;
-        self.text.push_str(part)
-    }
+/// A sheet: pegs, columns, nodes and what is rendered of them.
+fn sheet(alloc: Global) -> Result<String, AllocError> {
+    let mut text = String::new(alloc);
+    push_pegs(&mut text, alloc)?;
+    push_columns(&mut text, alloc)?;
+    Ok(text)
+}
 
-    /// Opens an object or a list.
-    fn open(&mut self, part: &str) -> Result<(), AllocError> {
-        self.put(part)?;
-        self.depth = self.depth.saturating_add(1);
-        Ok(())
-    }
+/// The text of so many shots, each with a palette, a level and a sheet, without a blank.
+fn shots(alloc: Global, count: usize) -> Result<String, AllocError> {
+    let sheet = sheet(alloc)?;
+    let mut text = String::from_str(alloc, r#"{"format":2,"camera":{"w":320,"h":180},"#)?;
+    push_copies(&mut text, r#""palettes":["#, (PALETTE, count), "],")?;
+    push_copies(&mut text, r#""levels":["#, (LEVEL, count), "],")?;
+    push_copies(&mut text, r#""sheets":["#, (sheet.as_str(), count), "]}")?;
+    Ok(text)
+}
 
-    fn close(&mut self, bracket: &str) -> Result<(), AllocError> {
-        self.depth = self.depth.saturating_sub(1);
-        self.begin_line()?;
-        self.text.push_str(bracket)
+/// Begins a line, where the layout has lines.
+fn begin_line(text: &mut String, layout: Layout, depth: u32) -> Result<(), AllocError> {
+    if let Layout::OneLine = layout {
+        return Ok(());
     }
-
-    fn number(&mut self, key: &str, number: u32) -> Result<(), AllocError> {
-        let member = format!(in self.alloc; "\"{key}\": {number}")?;
-        self.put(member.as_str())
+    text.push('\n')?;
+    for _ in 0..depth {
+        text.push_str("  ")?;
     }
+    Ok(())
+}
 
-    fn style(&mut self, opening: &str, channels: [u8; 4]) -> Result<(), AllocError> {
-        self.open(opening)?;
-        for channel in channels {
-            let channel = format!(in self.alloc; "{channel}")?;
-            self.put(channel.as_str())?;
-        }
-        self.close("]")
-    }
-
-    fn palette(&mut self) -> Result<(), AllocError> {
-        self.open("[")?;
-        for green in 0..12u8 {
-            self.style("[", [46, green, 148, 255])?;
-        }
-        self.close("]")
-    }
-
-    /// A level of twelve drawings.
-    fn level(&mut self) -> Result<(), AllocError> {
-        self.open("{")?;
-        self.put("\"kind\": \"cm32\"")?;
-        self.number("palette", 0)?;
-        self.open("\"drawings\": [")?;
-        for drawing in 1..=12u32 {
-            let name = format!(in self.alloc; "\"leg.{drawing:04}.xrl\"")?;
-            self.put(name.as_str())?;
-        }
-        self.close("]")?;
-        self.close("}")
-    }
-
-    fn peg_key(&mut self, row: u32, x: u32, y: u32) -> Result<(), AllocError> {
-        self.open("{")?;
-        self.number("row", row)?;
-        self.number("x", x)?;
-        self.number("y", y)?;
-        self.close("}")
-    }
-
-    /// A peg with so many keys.
-    fn peg(&mut self, keys: u32) -> Result<(), AllocError> {
-        self.open("{")?;
-        self.open("\"keys\": [")?;
-        for key in 0..keys {
-            self.peg_key(key.saturating_add(1), 0, key % 4)?;
-        }
-        self.close("]")?;
-        self.close("}")
-    }
-
-    fn cell(&mut self, from: u32, drawing: u32) -> Result<(), AllocError> {
-        self.open("{")?;
-        self.number("from", from)?;
-        self.number("to", from.saturating_add(1))?;
-        self.number("level", 4)?;
-        self.number("drawing", drawing)?;
-        self.close("}")
-    }
-
-    /// A column on a peg, of so many cells.
-    fn column(&mut self, peg: u32, cells: u32) -> Result<(), AllocError> {
-        self.open("{")?;
-        self.number("peg", peg)?;
-        self.open("\"cells\": [")?;
-        for cell in 0..cells {
-            self.cell(cell.saturating_mul(2).saturating_add(1), cell)?;
-        }
-        self.close("]")?;
-        self.close("}")
-    }
-
-    fn target(&mut self, opening: &str, key: &str, number: u32) -> Result<(), AllocError> {
-        self.open(opening)?;
-        self.number(key, number)?;
-        self.close("}")
-    }
-
-    fn card(&mut self) -> Result<(), AllocError> {
-        self.open("{")?;
-        self.put("\"op\": \"card\"")?;
-        self.style("\"rgba\": [", [168, 150, 190, 255])?;
-        self.close("}")
-    }
-
-    fn product(&mut self, column: u32) -> Result<(), AllocError> {
-        self.open("{")?;
-        self.put("\"op\": \"mult\"")?;
-        self.target("\"first\": {", "column", column)?;
-        self.target("\"second\": {", "node", 0)?;
-        self.close("}")
-    }
-
-    fn pegs(&mut self) -> Result<(), AllocError> {
-        self.open("\"pegs\": [")?;
-        self.peg(12)?;
-        self.peg(2)?;
-        self.peg(1)?;
-        self.close("]")
-    }
-
-    fn columns(&mut self) -> Result<(), AllocError> {
-        self.open("\"columns\": [")?;
-        for number in 0..5u32 {
-            self.column(number % 3, 12)?;
-        }
-        for number in 0..4u32 {
-            self.column(number % 3, 1)?;
-        }
-        self.close("]")
-    }
-
-    /// A sheet: pegs, columns of moving and of still drawings, nodes and what is rendered of them.
-    fn sheet(&mut self) -> Result<(), AllocError> {
-        self.open("{")?;
-        self.pegs()?;
-        self.columns()?;
-        self.open("\"nodes\": [")?;
-        self.card()?;
-        self.product(1)?;
-        self.product(3)?;
-        self.close("]")?;
-        self.open("\"out\": [")?;
-        for node in 0..3u32 {
-            self.target("{", "node", node)?;
-        }
-        self.close("]")?;
-        self.close("}")
-    }
-
-    fn head(&mut self) -> Result<(), AllocError> {
-        self.open("{")?;
-        self.number("format", 2)?;
-        self.open("\"camera\": {")?;
-        self.number("w", 320)?;
-        self.number("h", 180)?;
-        self.close("}")
-    }
-
-    fn palettes(&mut self, count: usize) -> Result<(), AllocError> {
-        self.open("\"palettes\": [")?;
-        for _ in 0..count {
-            self.palette()?;
-        }
-        self.close("]")
-    }
-
-    fn levels(&mut self, count: usize) -> Result<(), AllocError> {
-        self.open("\"levels\": [")?;
-        for _ in 0..count {
-            self.level()?;
-        }
-        self.close("]")
-    }
-
-    fn sheets(&mut self, count: usize) -> Result<(), AllocError> {
-        self.open("\"sheets\": [")?;
-        for _ in 0..count {
-            self.sheet()?;
-        }
-        self.close("]")
+/// Writes what stands after a comma.
+fn separate(text: &mut String, layout: Layout, depth: u32) -> Result<(), AllocError> {
+    match layout {
+        Layout::Indented => begin_line(text, layout, depth),
+        Layout::OneLine => text.push(' '),
     }
 }
 
-/// The text of so many shots, each with a palette, a level and a sheet.
-fn shots(alloc: Global, layout: Layout, count: usize) -> Result<String, AllocError> {
-    let mut script = Script::new(alloc, layout);
-    script.head()?;
-    script.palettes(count)?;
-    script.levels(count)?;
-    script.sheets(count)?;
-    script.close("}")?;
-    Ok(script.text)
+/// Writes a character in its layout, and tells how deep the next one stands.
+fn lay_out(text: &mut String, layout: Layout, depth: u32, c: char) -> Result<u32, AllocError> {
+    let deeper = depth.saturating_add(1);
+    let outer = depth.saturating_sub(1);
+    if c == '}' || c == ']' {
+        begin_line(text, layout, outer)?;
+    }
+    text.push(c)?;
+    match c {
+        '{' | '[' => begin_line(text, layout, deeper)?,
+        ',' => separate(text, layout, depth)?,
+        ':' => text.push(' ')?,
+        _ => {}
+    }
+    match c {
+        '{' | '[' => Ok(deeper),
+        '}' | ']' => Ok(outer),
+        _ => Ok(depth),
+    }
+}
+
+/// A text in its layout. None of its strings has a bracket, a comma or a colon, and none of its lists is
+/// empty.
+fn laid_out(alloc: Global, layout: Layout, bare: &str) -> Result<String, AllocError> {
+    let mut text = String::new(alloc);
+    let mut depth = 0;
+    for c in bare.chars() {
+        depth = lay_out(&mut text, layout, depth, c)?;
+    }
+    Ok(text)
+}
+
+/// The text of so many shots in its layout.
+fn shots_in(alloc: Global, layout: Layout, count: usize) -> Result<String, AllocError> {
+    let bare = shots(alloc, count)?;
+    laid_out(alloc, layout, bare.as_str())
 }
 
 /// A text of about so many bytes.
 pub fn script_text(alloc: Global, layout: Layout, size: usize) -> Result<String, AllocError> {
-    let one = shots(alloc, layout, 1)?.len();
+    let one = shots_in(alloc, layout, 1)?.len();
     let count = size.checked_div(one).unwrap_or(1);
-    shots(alloc, layout, count)
+    shots_in(alloc, layout, count)
 }
