@@ -1,17 +1,20 @@
 -- Each pass of checking finds one thing, a fault or nothing.
 use Rattle.std.proofs.Common.{◌≡◌, ℕ, true, List, refl}
 use Rattle.std.proofs.lemmas.Bool.{cases_eq}
-use Rattle.xs_json.specs.declared.code.SceneCode.{SceneCode}
+use Rattle.xs_fault.specs.declared.code.SceneCode.{SceneCode}
 use Rattle.xs_scene.specs.declared.level.Kind.{Kind}
 use Rattle.xs_scene.specs.declared.level.Kind.TheVariants.{Colour, Cm32}
 use Rattle.xs_scene.specs.declared.column.Shown.{Shown}
 use Rattle.xs_scene.specs.declared.column.Shown.TheVariants.{Drawing, Sheet}
 use Rattle.xs_scene.specs.declared.node.Ref.{Ref}
 use Rattle.xs_scene.specs.declared.node.Ref.TheVariants.{Column as ToColumn, Node as ToNode}
+use Rattle.xs_scene.specs.declared.node.Inputs.{Inputs}
+use Rattle.xs_scene.specs.declared.node.Inputs.TheVariants.{Zero, One, Two}
 use Rattle.xs_scene.specs.declared.node.Node.{Node}
 use Rattle.xs_scene.specs.declared.node.Node.TheVariants.{Pair, Card, Shuffle, Blur, Keep, Delete}
+use Rattle.xs_scene.specs.Inputs.{inputs_of_node}
 use Rattle.xs_scene.specs.Records.{SceneRecord, SheetRecord, ColoursRecord, StyleKeyRecord, LevelRecord, PegRecord, PegKeyRecord, ColumnRecord, ExposureRecord}
-use Rattle.xs_check.specs.Passes.{AtMost, PaletteSizes, NodeSizes, SheetSizes, Sizes, Names, CameraReference, PaletteReferences, KindReference, LevelReference, ShownReferences, CellReferences, PegReference, ColumnReferences, RefReference, NodeReferences, SheetReferences, References, EachApart, FilesApart, SheetOverlaps, Overlaps, NoCycles, NoLongChains, LongChains, Checking}
+use Rattle.xs_check.specs.Passes.{AtMost, PaletteSizes, NodeSizes, SheetSizes, Sizes, NamesOne, CameraReference, PaletteReferences, KindReference, LevelReference, ShownReferences, CellReferences, PegReference, ColumnReferences, RefReference, InputReferences, NodeReferences, SheetReferences, References, EachApart, FilesApart, SheetOverlaps, Overlaps, NoCycles, NoLongChains, LongChains, Checking}
 use Rattle.xs_check.specs.Codes.{is_of_checking}
 use Rattle.xs_index.specs.Apart.{AreApart, DifferInRow, DifferInRowOrStyle}
 use Rattle.xs_graph.specs.Paths.{Links, LiesOnCycle, HasChain}
@@ -46,7 +49,7 @@ sizes s = decide_then _ _ (decide_each_at _ palette_sizes _ _) (decide_each_at _
 
 -- ---- references
 
-names : {A : Type 0} (at : List ℕ) (things : List A) (number : ℕ) → Decision (Names at things number)
+names : {A : Type 0} (at : List ℕ) (things : List A) (number : ℕ) → Decision (NamesOne at things number)
 names at things number = decide_unless _ _ _ refl (settled_below _ _)
 
 camera_reference : (s : SceneRecord) → Decision (CameraReference s)
@@ -82,13 +85,14 @@ ref_reference : (k : SheetRecord) (at : List ℕ) (r : Ref) → Decision (RefRef
 ref_reference k at (ToColumn c) = names _ _ _
 ref_reference k at (ToNode n) = names _ _ _
 
+input_references : (k : SheetRecord) (at : List ℕ) (inputs : Inputs) → Decision (InputReferences k at inputs)
+input_references k at Zero = decide_nothing
+input_references k at (One input) = ref_reference k _ _
+input_references k at (Two first second) = decide_then _ _ (ref_reference k _ _) (ref_reference k _ _)
+
 node_references : (k : SheetRecord) (at : List ℕ) (node : Node) → Decision (NodeReferences k at node)
-node_references k at (Pair op first second) = decide_then _ _ (ref_reference k _ _) (ref_reference k _ _)
-node_references k at (Card style) = decide_nothing
-node_references k at (Shuffle input list) = ref_reference k _ _
-node_references k at (Blur input radius) = ref_reference k _ _
-node_references k at (Keep input styles) = ref_reference k _ _
-node_references k at (Delete input styles) = ref_reference k _ _
+unfolding NodeReferences
+node_references k at node = input_references k at (inputs_of_node node)
 
 sheet_references : (s : SceneRecord) (at : List ℕ) (k : SheetRecord) → Decision (SheetReferences s at k)
 sheet_references s at k =
@@ -138,32 +142,31 @@ overlaps s =
 -- ---- cycles and chains
 
 -- a node lies on a cycle or not, and a chain begins at it or not
-abbrev pub CyclesSettled : Type 0
+abbrev CyclesSettled : Type 0
 CyclesSettled = (links : Links) (a : ℕ) → Settled (LiesOnCycle links a)
 
-abbrev pub ChainsSettled : Type 0
+abbrev ChainsSettled : Type 0
 ChainsSettled = (links : Links) (steps a : ℕ) → Settled (HasChain links steps a)
 
-no_cycles : CyclesSettled → {A : Type 0} (code : SceneCode) (links : Links) (at : List ℕ) (things : List A) → is_of_checking code ≡ true
-    → Decision (NoCycles code links at things)
+no_cycles : CyclesSettled → (code : SceneCode) (links : Links) (at : List ℕ) → is_of_checking code ≡ true → Decision (NoCycles code links at)
 unfolding NoCycles
-no_cycles cycles code links at things kept =
-    decide_each _ (λ i thing. decide_unless _ _ _ kept (settled_not _ (cycles links i))) _ _
+no_cycles cycles code links at kept =
+    decide_each _ (λ i targets. decide_unless _ _ _ kept (settled_not _ (cycles links i))) _ _
 
-no_long_chains : ChainsSettled → {A : Type 0} (most : ℕ) (links : Links) (at : List ℕ) (things : List A) → Decision (NoLongChains most links at things)
+no_long_chains : ChainsSettled → (most : ℕ) (links : Links) (at : List ℕ) → Decision (NoLongChains most links at)
 unfolding NoLongChains
-no_long_chains chains most links at things =
-    decide_each _ (λ i thing. decide_unless _ _ _ refl (settled_not _ (chains links most i))) _ _
+no_long_chains chains most links at =
+    decide_each _ (λ i targets. decide_unless _ _ _ refl (settled_not _ (chains links most i))) _ _
 
-long_chains : ChainsSettled → (s : SceneRecord) → Decision (LongChains s)
-long_chains chains s =
-    decide_then _ _ (decide_each_at _ (λ at k. no_long_chains chains _ _ _ _) _ _) (no_long_chains chains _ _ _ _)
+long_chains : ChainsSettled → (parents : List Links) (nested : Links) → Decision (LongChains parents nested)
+long_chains chains parents nested =
+    decide_then _ _ (decide_each_at _ (λ at links. no_long_chains chains _ _ _) _ _) (no_long_chains chains _ _ _)
 
 pub checking : CyclesSettled → ChainsSettled → (s : SceneRecord) → Decision (Checking s)
 checking cycles chains s =
     decide_then _ _ (sizes s)
     (decide_then _ _ (references s)
     (decide_then _ _ (overlaps s)
-    (decide_then _ _ (decide_each_at _ (λ at k. no_cycles cycles _ _ _ _ refl) _ _)
-    (decide_then _ _ (decide_each_at _ (λ at k. no_cycles cycles _ _ _ _ refl) _ _)
-    (decide_then _ _ (no_cycles cycles _ _ _ _ refl) (long_chains chains s))))))
+    (decide_then _ _ (decide_each_at _ (λ at links. no_cycles cycles _ _ _ refl) _ _)
+    (decide_then _ _ (decide_each_at _ (λ at k. no_cycles cycles _ _ _ refl) _ _)
+    (decide_then _ _ (no_cycles cycles _ _ _ refl) (long_chains chains _ _))))))

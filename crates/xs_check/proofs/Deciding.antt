@@ -1,7 +1,7 @@
 -- A check finds one thing, a fault or nothing, and a fault that it finds has one of its codes.
 use Rattle.std.proofs.Common.{◌≡◌, ◌+◌, ℕ, true, List, [], ◌∷◌, Option, Some, None, refl, sym, ap, ◌∙◌, inl, inr}
-use Rattle.xs_json.specs.declared.code.SceneCode.{SceneCode}
-use Rattle.xs_json.specs.declared.fault.SceneFault.{SceneFault}
+use Rattle.xs_fault.specs.declared.code.SceneCode.{SceneCode}
+use Rattle.xs_fault.specs.declared.fault.SceneFault.{SceneFault}
 use Rattle.xs_check.specs.Finding.{Finding, Nothing, Unless, Then, Each, EachAt, IfThere}
 use Rattle.xs_check.specs.Codes.{is_of_checking}
 use Rattle.xs_graph.specs.Settled.{Settled}
@@ -66,7 +66,8 @@ pub decide_each : {A : Type 0} (F : ℕ → A → Finding) → ((i : ℕ) (x : A
 decide_each F f i [] = decide_nothing
 decide_each F f i (x ∷ xs) = decide_then (F i x) (Each F (i + 1) xs) (f i x) (decide_each F f (i + 1) xs)
 
-pub decide_each_at : {A : Type 0} (F : List ℕ → A → Finding) → ((at : List ℕ) (x : A) → Decision (F at x)) → (at : List ℕ) (xs : List A) → Decision (EachAt at F xs)
+pub decide_each_at : {A : Type 0} (F : List ℕ → A → Finding) → ((at : List ℕ) (x : A) → Decision (F at x)) → (at : List ℕ) (xs : List A)
+    → Decision (EachAt at F xs)
 unfolding EachAt
 decide_each_at F f at xs = decide_each _ (λ i x. f _ x) 0 xs
 

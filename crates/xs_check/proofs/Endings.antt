@@ -50,7 +50,8 @@ pegs_end k (suc m) i h =
 
 -- ---- sheets
 
-contains_flat : {A : Type 0} (f : A → List ℕ) (xs : List A) (i : ℕ) (d : A) (y : ℕ) → i < length xs → Contains (f (get_or xs i d)) y → Contains (flat_map f xs) y
+contains_flat : {A : Type 0} (f : A → List ℕ) (xs : List A) (i : ℕ) (d : A) (y : ℕ) → i < length xs → Contains (f (get_or xs i d)) y
+    → Contains (flat_map f xs) y
 contains_flat f [] i d y below c = absurd (omega arith)
 contains_flat f (x ∷ xs) zero d y below c = Contains-append_left (f x) (flat_map f xs) y c
 contains_flat f (x ∷ xs) (suc i) d y below c =
@@ -94,7 +95,8 @@ inputs_have P (Blur input radius) columns nodes = ref_has P input columns nodes
 inputs_have P (Keep input styles) columns nodes = ref_has P input columns nodes
 inputs_have P (Delete input styles) columns nodes = ref_has P input columns nodes
 
-inputs_at : (P : Ref → Type 0) (list : List Node) (i : ℕ) → ((c : ℕ) → P (ToColumn c)) → ((n : ℕ) → Contains (get_or (map inputs_of list) i []) n → P (ToNode n)) → InputsHave P (slice_get list i)
+inputs_at : (P : Ref → Type 0) (list : List Node) (i : ℕ) → ((c : ℕ) → P (ToColumn c))
+    → ((n : ℕ) → Contains (get_or (map inputs_of list) i []) n → P (ToNode n)) → InputsHave P (slice_get list i)
 inputs_at P [] i columns nodes = tt
 inputs_at P (node ∷ list) zero columns nodes = inputs_have P node columns nodes
 inputs_at P (node ∷ list) (suc i) columns nodes = inputs_at P list i columns nodes

@@ -1,14 +1,14 @@
 use Rattle.std.proofs.Common.{◌≡◌, ◌<◌, ◌≤◌, ◌+◌, ℕ, suc, true, false, List, [], ◌∷◌, Option, Some, None, Result, Ok, Err, inl, inr, length, drop, get_or, is_err, refl, sym, subst, arith, option_map}
 use Rattle.std.proofs.Math.Seq.{drop-cons}
 use Rattle.std.proofs.Math.Numerals.{add-one}
-use Rattle.xs_json.specs.declared.fault.SceneFault.{SceneFault}
-use Rattle.xs_json.specs.declared.fault.FieldFault.{FieldFault}
-use Rattle.xs_json.specs.declared.fault.FieldFault.TheVariants as errors
-use Rattle.xs_json.specs.declared.code.SceneCode.{SceneCode}
-use Rattle.xs_json.specs.Paths.{index_at}
+use Rattle.xs_fault.specs.declared.fault.SceneFault.{SceneFault}
+use Rattle.xs_fault.specs.declared.fault.FieldFault.{FieldFault}
+use Rattle.xs_fault.specs.declared.fault.FieldFault.TheVariants as errors
+use Rattle.xs_fault.specs.declared.code.SceneCode.{SceneCode}
+use Rattle.xs_fault.specs.Paths.{index_at}
 use Rattle.std.proofs.lemmas.Bool.{cases_lt}
-use Rattle.xs_check.specs.Finding.{Finding, Finds, Unless, Then, Each, TellsFirst}
-use Rattle.xs_graph.specs.First.{IsFirstWithout}
+use Rattle.xs_check.specs.Finding.{Finding, Finds, Unless, Then, Each, IsFaultAtFirst}
+use Rattle.xs_base.specs.First.{IsFirstWithout}
 
 -- what one check finds, another one finds
 pub record Covers (F G : Finding) : Type 0 where
@@ -76,7 +76,7 @@ module _ {A : Type 0} (P : ℕ → Type 0) (code : SceneCode) (path : ℕ → Li
 
 -- the fault at the first element without P, if there is one
 pub first_told : {A : Type 0} (P : ℕ → Type 0) (code : SceneCode) (at : List ℕ) (xs : List A) (first : Option ℕ) (r : Result (Unit {0}) FieldFault)
-    → IsFirstWithout P (length xs) first → TellsFirst code at first r → Finds r (Each (λ i x. Unless code (index_at at i) (P i)) 0 xs)
+    → IsFirstWithout P (length xs) first → IsFaultAtFirst code at first r → Finds r (Each (λ i x. Unless code (index_at at i) (P i)) 0 xs)
 first_told P code at xs first (Ok u) h told = first_found P code (index_at at) xs first h None (rw told refl)
 first_told P code at xs first (Err errors.Memory) h told = tt
 first_told P code at xs first (Err (errors.Fault fault)) h (i, is, fault_is) = first_found P code (index_at at) xs first h (Some fault) (rw (is, fault_is) refl)

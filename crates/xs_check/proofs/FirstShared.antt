@@ -1,15 +1,15 @@
 use Rattle.std.proofs.Common.{◌≡◌, ◌<◌, ◌+◌, ℕ, List, [], ◌∷◌, Option, Some, None, Result, Ok, Err, AllPairs, All, length, get_or, take, refl, sym, subst, arith}
 use Rattle.std.proofs.lemmas.List.{get_or_default, get_or-take, length-take, take_more}
 use Rattle.std.proofs.lemmas.List.Quantifiers.{all_pairs_push}
-use Rattle.xs_json.specs.Paths.{index_at}
-use Rattle.xs_json.specs.declared.code.SceneCode.TheVariants as code
-use Rattle.xs_json.specs.declared.fault.SceneFault.{SceneFault}
-use Rattle.xs_json.specs.declared.fault.FieldFault.{FieldFault}
-use Rattle.xs_json.specs.declared.fault.FieldFault.TheVariants as errors
-use Rattle.xs_check.specs.Finding.{Finding, Finds, Unless, Each, TellsFirst}
+use Rattle.xs_fault.specs.Paths.{index_at}
+use Rattle.xs_fault.specs.declared.code.SceneCode.TheVariants as code
+use Rattle.xs_fault.specs.declared.fault.SceneFault.{SceneFault}
+use Rattle.xs_fault.specs.declared.fault.FieldFault.{FieldFault}
+use Rattle.xs_fault.specs.declared.fault.FieldFault.TheVariants as errors
+use Rattle.xs_check.specs.Finding.{Finding, Finds, Unless, Each, IsFaultAtFirst}
 use Rattle.xs_check.specs.Passes.{EachApart}
-use Rattle.xs_check.specs.Apart.{IsFirstShared}
-use Rattle.xs_graph.specs.First.{IsFirstWithout}
+use Rattle.xs_check.specs.Shared.{IsFirstShared}
+use Rattle.xs_base.specs.First.{IsFirstWithout}
 use Rattle.xs_check.proofs.Findings.{each_cover, first_told}
 use Rattle.xs_check.proofs.Pairs.{AllPairs-take}
 
@@ -49,7 +49,7 @@ module _ {A : Type 0} (Apart : A → A → Type 0) (xs : List A) where
   )
 
 module _ {A : Type 0} (Apart : A → A → Type 0) (at : List ℕ) (d : A) (xs : List A) where
-  told_by : (first : Option ℕ) (r : Result (Unit {0}) FieldFault) → IsFirstShared Apart xs first → TellsFirst code.Overlap at first r
+  told_by : (first : Option ℕ) (r : Result (Unit {0}) FieldFault) → IsFirstShared Apart xs first → IsFaultAtFirst code.Overlap at first r
       → Finds r (EachApart Apart at xs)
   unfolding EachApart
   told_by first r h told =
@@ -67,7 +67,7 @@ module _ {A : Type 0} (Apart : A → A → Type 0) (at : List ℕ) (d : A) (xs :
       (first_told (λ i. All (λ e. Apart e (get_or xs i d)) (take i xs)) code.Overlap at xs first r (first_without Apart xs first d h) told)
 
 none_told : {A : Type 0} (Apart : A → A → Type 0) (at : List ℕ) (first : Option ℕ) (r : Result (Unit {0}) FieldFault) → IsFirstShared Apart [] first
-    → TellsFirst code.Overlap at first r → Finds r (EachApart Apart at [])
+    → IsFaultAtFirst code.Overlap at first r → Finds r (EachApart Apart at [])
 unfolding EachApart
 none_told Apart at (Some i) r front told = absurd (let inside = front.inside in omega arith)
 none_told Apart at None (Ok u) h told = refl
@@ -76,6 +76,6 @@ none_told Apart at None (Err (errors.Fault fault)) h (i, is, fault_is) = absurd 
 
 -- the fault at the first element that does not stand apart from each earlier one
 pub shared_told : {A : Type 0} (Apart : A → A → Type 0) (at : List ℕ) (xs : List A) (first : Option ℕ) (r : Result (Unit {0}) FieldFault)
-    → IsFirstShared Apart xs first → TellsFirst code.Overlap at first r → Finds r (EachApart Apart at xs)
+    → IsFirstShared Apart xs first → IsFaultAtFirst code.Overlap at first r → Finds r (EachApart Apart at xs)
 shared_told Apart at [] first r h told = none_told Apart at first r h told
 shared_told Apart at (x ∷ xs) first r h told = told_by Apart at x (x ∷ xs) first r h told

@@ -2,11 +2,14 @@ use Rattle.std.proofs.Common.{◌≡◌, ◌≢◌, ◌<◌, ◌≤◌, ◌+◌,
 use Rattle.std.proofs.lemmas.Bool.{cases_lt, cases_Bool}
 use Rattle.std.proofs.lemmas.List.{get_or-take, get_or_past, length-map, length-take}
 use Rattle.std.proofs.lemmas.List.Elements.{Contains-append_cases}
-use Rattle.xs_json.specs.Objects.{path_of}
-use Rattle.xs_json.specs.Paths.{index_at}
-use Rattle.xs_json.specs.declared.field.Field.TheVariants as field
-use Rattle.xs_json.specs.declared.code.SceneCode.{SceneCode}
-use Rattle.xs_json.specs.declared.code.SceneCode.TheVariants as code
+use Rattle.std.proofs.Math.ListN.{get_or-map}
+use Rattle.std.specs.Option.{option_to_list}
+use Rattle.xs_base.specs.declared.limits.TheConstants.{DEEPEST_NEST, LONGEST_PEG_CHAIN, MOST_TERMINALS}
+use Rattle.xs_fault.specs.Paths.{path_of}
+use Rattle.xs_fault.specs.Paths.{index_at}
+use Rattle.xs_fault.specs.declared.field.Field.TheVariants as field
+use Rattle.xs_fault.specs.declared.code.SceneCode.{SceneCode}
+use Rattle.xs_fault.specs.declared.code.SceneCode.TheVariants as code
 use Rattle.xs_scene.specs.declared.level.Kind.{Kind}
 use Rattle.xs_scene.specs.declared.level.Kind.TheVariants.{Colour, Cm32}
 use Rattle.xs_scene.specs.declared.column.Shown.{Shown}
@@ -23,9 +26,9 @@ use Rattle.xs_meaning.specs.Ends.{InputsHave, NodesEnd, SheetsEnd, PegsEnd}
 use Rattle.xs_check.specs.Finding.{Finding, Unless, Each, EachAt, IfThere}
 use Rattle.xs_index.specs.Apart.{AreApart, DifferInRow, DifferInRowOrStyle}
 use Rattle.xs_check.specs.Good.{IsGood, IsGoodSheet, IsGoodColumn, IsGoodNode, IsGoodPeg, IsGoodPalette, HasFewEntries, HasPalette, IsThere, Targets, files_of}
-use Rattle.xs_check.specs.Links.{parent_links, input_links, sheet_links, sheets_in}
+use Rattle.xs_check.specs.Links.{parent_links, input_links, sheet_links}
 use Rattle.xs_check.specs.Passes as pass
-use Rattle.xs_check.specs.Passes.{EachApart, FilesApart, NoLongChains, NoCycles, CellReferences, LevelReference}
+use Rattle.xs_check.specs.Passes.{EachApart, FilesApart, NoLongChains, NoCycles, CellReferences, LevelReference, NodeReferences}
 use Rattle.xs_graph.specs.Paths.{Links, successors, LiesOnCycle, HasChain, has_chain}
 use Rattle.xs_check.proofs.Endings.{pegs_end, sheets_end, nodes_end}
 
@@ -47,7 +50,8 @@ each_at_all : {A : Type 0} (F : List ℕ → A → Finding) (P : A → Type 0) �
 unfolding EachAt
 each_at_all F P h at xs none = each_all (λ i x. F (index_at at i) x) P (λ i x n. h (index_at at i) x n) xs 0 none
 
-at_index : {A : Type 0} (F : List ℕ → A → Finding) (at : List ℕ) (xs : List A) → EachAt at F xs None → (k : ℕ) (d : A) → k < length xs → F (index_at at k) (get_or xs k d) None
+at_index : {A : Type 0} (F : List ℕ → A → Finding) (at : List ℕ) (xs : List A) → EachAt at F xs None → (k : ℕ) (d : A) → k < length xs
+    → F (index_at at k) (get_or xs k d) None
 unfolding EachAt
 at_index F at xs none k d below = each_index (λ i x. F (index_at at i) x) xs 0 k k d none below (omega arith)
 
@@ -72,11 +76,11 @@ each_number G (x ∷ xs) i n zero none below is = let same : i ≡ n = omega ari
 each_number G (x ∷ xs) i n (suc k) none below is = each_number G xs (i + 1) n k none.1 (omega arith) (omega arith)
 
 -- the test for a chain tells whether one begins at a node
-abbrev pub ChainsTold : Type 0
+abbrev ChainsTold : Type 0
 ChainsTold = (links : Links) (steps a : ℕ) → (has_chain links steps a ≡ true) ↔ HasChain links steps a
 
 -- without a cycle a chain has fewer steps than there are nodes
-abbrev pub ChainsShort : Type 0
+abbrev ChainsShort : Type 0
 ChainsShort =
     (links : Links) → ((a c : ℕ) → Contains (successors links a) c → c < length links) → ((a : ℕ) → a < length links → LiesOnCycle links a → ⊥)
     → (steps a : ℕ) → a < length links → HasChain links steps a → steps < length links
@@ -85,18 +89,18 @@ chain_missing : ChainsTold → (links : Links) (steps a : ℕ) → (HasChain lin
 chain_missing told links steps a none =
     elim (cases_Bool (has_chain links steps a)) [ inl begins ↦ absurd (none ((told links steps a).0 begins)) | inr missing ↦ missing ]
 
-not_long : ChainsTold → {A : Type 0} (most : ℕ) (links : Links) (at : List ℕ) (xs : List A) → NoLongChains most links at xs None
-    → (k : ℕ) → k < length xs → has_chain links most k ≡ false
+not_long : ChainsTold → (most : ℕ) (links : Links) (at : List ℕ) → NoLongChains most links at None
+    → (k : ℕ) → k < length links → has_chain links most k ≡ false
 unfolding NoLongChains
-not_long told most links at xs none k below =
+not_long told most links at none k below =
     chain_missing told links most k
-    (each_number (λ i. Unless code.TooMany (index_at at i) (HasChain links most i → ⊥)) xs 0 k k none below (omega arith))
+    (each_number (λ i. Unless code.TooMany (index_at at i) (HasChain links most i → ⊥)) links 0 k k none below (omega arith))
 
-not_cyclic : {A : Type 0} (fault : SceneCode) (links : Links) (at : List ℕ) (xs : List A) → NoCycles fault links at xs None
-    → (k : ℕ) → k < length xs → LiesOnCycle links k → ⊥
+not_cyclic : (fault : SceneCode) (links : Links) (at : List ℕ) → NoCycles fault links at None
+    → (k : ℕ) → k < length links → LiesOnCycle links k → ⊥
 unfolding NoCycles
-not_cyclic fault links at xs none k below =
-    each_number (λ i. Unless fault (index_at at i) (LiesOnCycle links i → ⊥)) xs 0 k k none below (omega arith)
+not_cyclic fault links at none k below =
+    each_number (λ i. Unless fault (index_at at i) (LiesOnCycle links i → ⊥)) links 0 k k none below (omega arith)
 
 -- ---- the parts of a scene
 
@@ -112,7 +116,8 @@ targets : (k : SheetRecord) (at : List ℕ) (target : Ref) → pass.RefReference
 targets k at (ToColumn c) none = none
 targets k at (ToNode n) none = none
 
-inputs : (k : SheetRecord) (at : List ℕ) (node : Node) → pass.NodeReferences k at node None → InputsHave (Targets k) (Some node)
+inputs : (k : SheetRecord) (at : List ℕ) (node : Node) → NodeReferences k at node None → InputsHave (Targets k) (Some node)
+unfolding NodeReferences
 inputs k at (Pair op first second) none = (targets k _ first none.0, targets k _ second none.1)
 inputs k at (Card style) none = tt
 inputs k at (Shuffle input list) none = targets k _ input none
@@ -136,7 +141,7 @@ level_palette : (s : SceneRecord) (at : List ℕ) (level : LevelRecord) → Leve
 unfolding LevelReference
 level_palette s at level none = has_palette s at level.kind none
 
-names_there : {A : Type 0} (at : List ℕ) (things : List A) (number : Option ℕ) → IfThere (pass.Names at things) number None
+names_there : {A : Type 0} (at : List ℕ) (things : List A) (number : Option ℕ) → IfThere (pass.NamesOne at things) number None
     → IfSome number (λ n. n < length things)
 names_there at things None none = tt
 names_there at things (Some n) none = none
@@ -158,7 +163,7 @@ good_palette c at1 at2 at3 sizes references overlaps =
       styles = sizes.0;
       keys = sizes.1;
       names =
-          each_at_all (λ at (key : StyleKeyRecord). pass.Names (path_of field.Style at) c.styles key.style)
+          each_at_all (λ at (key : StyleKeyRecord). pass.NamesOne (path_of field.Style at) c.styles key.style)
           (λ key. key.style < length c.styles) (λ at key none. none) (path_of field.Keys at2) c.keys references;
       differ = each_apart_pairs DifferInRowOrStyle (path_of field.Keys at3) c.keys overlaps;
     }
@@ -195,11 +200,11 @@ module _ (s : SceneRecord) (k : SheetRecord) where
             each_at_all pass.ColumnOverlaps (λ column. AllPairs AreApart column.cells) cells_apart at2 k.columns overlaps i d below;
       }
 
-  good_nodes : (at1 at2 : List ℕ) → EachAt at1 pass.NodeSizes k.nodes None → EachAt at2 (pass.NodeReferences k) k.nodes None → All (IsGoodNode k) k.nodes
+  good_nodes : (at1 at2 : List ℕ) → EachAt at1 pass.NodeSizes k.nodes None → EachAt at2 (NodeReferences k) k.nodes None → All (IsGoodNode k) k.nodes
   good_nodes at1 at2 sizes references i d below =
       record {
         entries = each_at_all pass.NodeSizes HasFewEntries few_entries at1 k.nodes sizes i d below;
-        inputs = each_at_all (pass.NodeReferences k) (λ node. InputsHave (Targets k) (Some node)) (inputs k) at2 k.nodes references i d below;
+        inputs = each_at_all (NodeReferences k) (λ node. InputsHave (Targets k) (Some node)) (inputs k) at2 k.nodes references i d below;
       }
 
   good_sheet : (at1 at2 at3 : List ℕ) → pass.SheetSizes at1 k None → pass.SheetReferences s at2 k None → pass.SheetOverlaps at3 k None → IsGoodSheet s k
@@ -207,7 +212,7 @@ module _ (s : SceneRecord) (k : SheetRecord) where
       record {
         few_columns = sizes.0;
         few_nodes = sizes.1.0;
-        few_out = at_most 1024 (path_of field.Out at1) k.out sizes.1.1.1;
+        few_out = at_most MOST_TERMINALS (path_of field.Out at1) k.out sizes.1.1.1;
         pegs = good_pegs (path_of field.Pegs at2) (path_of field.Pegs at3) references.0 overlaps.0;
         columns = good_columns (path_of field.Columns at2) (path_of field.Columns at3) references.1.0 overlaps.1;
         nodes = good_nodes (path_of field.Nodes at1) (path_of field.Nodes at2) sizes.1.1.0 references.1.1.0;
@@ -246,7 +251,7 @@ sheet_nodes_end told short k at good none n below =
     (λ chain.
     let fewer = short (input_links k)
     (λ a c named. rw links_length (named_inside k k.nodes good a c named))
-    (λ a inside. not_cyclic code.NodeCycle (input_links k) (path_of field.Nodes at) k.nodes none a (rw (← links_length) inside))
+    (not_cyclic code.NodeCycle (input_links k) (path_of field.Nodes at) none)
     (length k.nodes) n (rw links_length below) chain in
     omega arith))
 
@@ -254,8 +259,11 @@ past_no_chain : (links : Links) (m a : ℕ) → length links ≤ a → has_chain
 unfolding has_chain
 past_no_chain links m a past = rw (get_or_past links a [] past) refl
 
-peg_ends : ChainsTold → (k : SheetRecord) (at : List ℕ) → pass.SheetLongChains at k None → (i : ℕ) → i < length k.pegs → PegsEnd k 64 (Some i)
-peg_ends told k at none i below = pegs_end k 64 i (not_long told 64 (parent_links k) (path_of field.Pegs at) k.pegs none i below)
+peg_ends : ChainsTold → (k : SheetRecord) (at : List ℕ) → pass.SheetLongChains at (parent_links k) None
+    → (i : ℕ) → i < length k.pegs → PegsEnd k LONGEST_PEG_CHAIN (Some i)
+peg_ends told k at none i below =
+    let links_length : length (parent_links k) ≡ length k.pegs = length-map k.pegs (λ (peg : PegRecord). option_to_list peg.parent) in
+    pegs_end k LONGEST_PEG_CHAIN i (not_long told LONGEST_PEG_CHAIN (parent_links k) (path_of field.Pegs at) none i (rw links_length below))
 
 module _ (sheets : List SheetRecord) where
   -- what holds of the nodes of each sheet holds past the sheets, where there is none
@@ -264,28 +272,32 @@ module _ (sheets : List SheetRecord) where
   nodes_everywhere h k n below =
       elim (cases_lt k (length sheets)) [
         | inl inside ↦ h k no_sheet inside n below
-        | inr past ↦ absurd (let is = get_or_past sheets k no_sheet past in let none : n < length no_sheet.nodes = subst (λ (x : SheetRecord). n < length x.nodes) is below in omega arith)
+        | inr past ↦ absurd (let is = get_or_past sheets k no_sheet past in let none : n < length no_sheet.nodes = subst
+            (λ (x : SheetRecord). n < length x.nodes) is below in omega arith)
       ]
 
-  pegs_everywhere : All (λ k. (i : ℕ) → i < length k.pegs → PegsEnd k 64 (Some i)) sheets
-      → (k i : ℕ) → i < length (sheet_at sheets k).pegs → PegsEnd (sheet_at sheets k) 64 (Some i)
+  pegs_everywhere : All (λ k. (i : ℕ) → i < length k.pegs → PegsEnd k LONGEST_PEG_CHAIN (Some i)) sheets
+      → (k i : ℕ) → i < length (sheet_at sheets k).pegs → PegsEnd (sheet_at sheets k) LONGEST_PEG_CHAIN (Some i)
   pegs_everywhere h k i below =
       elim (cases_lt k (length sheets)) [
         | inl inside ↦ h k no_sheet inside i below
-        | inr past ↦ absurd (let is = get_or_past sheets k no_sheet past in let none : i < length no_sheet.pegs = subst (λ (x : SheetRecord). i < length x.pegs) is below in omega arith)
+        | inr past ↦ absurd (let is = get_or_past sheets k no_sheet past in let none : i < length no_sheet.pegs = subst
+            (λ (x : SheetRecord). i < length x.pegs) is below in omega arith)
       ]
 
-  sheets_everywhere : ChainsTold → NoLongChains 16 (sheet_links sheets) pass.sheets_at sheets None → (k : ℕ) → SheetsEnd sheets 16 k
+  sheets_everywhere : ChainsTold → NoLongChains DEEPEST_NEST (sheet_links sheets) pass.sheets_at None → (k : ℕ) → SheetsEnd sheets DEEPEST_NEST k
   sheets_everywhere told none k =
-      elim (cases_lt k (length sheets)) [
-        | inl inside ↦ sheets_end sheets 16 k (not_long told 16 (sheet_links sheets) pass.sheets_at sheets none k inside)
-        | inr past ↦ sheets_end sheets 16 k (past_no_chain (sheet_links sheets) 15 k (rw (length-map sheets sheets_in) past))
+      let links = sheet_links sheets in
+      elim (cases_lt k (length links)) [
+        | inl inside ↦ sheets_end sheets DEEPEST_NEST k (not_long told DEEPEST_NEST links pass.sheets_at none k inside)
+        | inr past ↦ sheets_end sheets DEEPEST_NEST k (past_no_chain links 15 k past)
       ]
 
 -- ---- the scene
 
-module _ (told : ChainsTold) (short : ChainsShort) (s : SceneRecord) (sizes : pass.Sizes s None) (references : pass.References s None) (overlaps : pass.Overlaps s None)
-    (node_cycles : pass.NodeCycles s None) (long_chains : pass.LongChains s None) (ranges : IsInRange s) where
+module _ (told : ChainsTold) (short : ChainsShort) (s : SceneRecord) (sizes : pass.Sizes s None) (references : pass.References s None)
+    (overlaps : pass.Overlaps s None)
+    (node_cycles : pass.NodeCycles s None) (long_chains : pass.LongChains (map parent_links s.sheets) (sheet_links s.sheets) None) (ranges : IsInRange s) where
   all_good_sheets : All (IsGoodSheet s) s.sheets
   all_good_sheets k d below =
       good_sheet s (get_or s.sheets k d) (index_at pass.sheets_at k) (index_at pass.sheets_at k) (index_at pass.sheets_at k)
@@ -306,6 +318,13 @@ module _ (told : ChainsTold) (short : ChainsShort) (s : SceneRecord) (sizes : pa
       sheet_nodes_end told short (get_or s.sheets k d) (index_at pass.sheets_at k) (all_good_sheets k d below).nodes
       (at_index pass.SheetNodeCycles pass.sheets_at s.sheets node_cycles k d below)
 
+  pegs_all_end : All (λ k. (i : ℕ) → i < length k.pegs → PegsEnd k LONGEST_PEG_CHAIN (Some i)) s.sheets
+  pegs_all_end k d below =
+      let links_length : length (map parent_links s.sheets) ≡ length s.sheets = length-map s.sheets parent_links in
+      peg_ends told (get_or s.sheets k d) (index_at pass.sheets_at k)
+      (subst (λ (links : Links). pass.SheetLongChains (index_at pass.sheets_at k) links None) (get_or-map parent_links s.sheets k d)
+      (at_index pass.SheetLongChains pass.sheets_at (map parent_links s.sheets) long_chains.0 k (parent_links d) (omega arith)))
+
   good : IsGood s
   good =
       record {
@@ -320,7 +339,7 @@ module _ (told : ChainsTold) (short : ChainsShort) (s : SceneRecord) (sizes : pa
             record {
               nodes = nodes_everywhere s.sheets nodes_all_end;
               sheets_end = sheets_everywhere s.sheets told long_chains.1;
-              pegs = pegs_everywhere s.sheets (each_at_all pass.SheetLongChains (λ k. (i : ℕ) → i < length k.pegs → PegsEnd k 64 (Some i)) (λ at k none. peg_ends told k at none) pass.sheets_at s.sheets long_chains.0);
+              pegs = pegs_everywhere s.sheets pegs_all_end;
             };
       }
 

@@ -1,14 +1,14 @@
-pub mod Findings
-pub mod Pairs
-pub mod Neighbours
-pub mod Endings
-pub mod Goods
-pub mod Repeats
-pub mod FirstTold
-pub mod Numbering
-pub mod Readings
-pub mod StyleKeys
-pub mod FirstShared
-pub mod Settled
-pub mod Deciding
-pub mod DecidedPasses
+mod Findings
+mod Pairs
+mod Neighbours
+mod Endings
+mod Goods
+mod Repeats
+mod Numbering
+mod Readings
+mod StyleKeys
+mod FirstShared
+mod Settled
+mod Deciding
+mod DecidedPasses
+mod IndexApart

@@ -6,7 +6,8 @@ use Rattle.std.proofs.lemmas.List.{get_or_default}
 use Rattle.std.proofs.lemmas.List.Sorted.{IsPermutation-sym}
 use Rattle.std.specs.List.{AllAdjacentBelow}
 use Rattle.xs_index.specs.Order.{IsInOrder, IsOrderOf}
-use Rattle.xs_check.specs.Apart.{ShareNoRow, EndsBefore}
+use Rattle.xs_index.specs.Apart.{ShareNoRow}
+use Rattle.xs_check.specs.Shared.{EndsBefore}
 use Rattle.xs_check.proofs.Pairs.{AllPairs-permutation}
 
 no_later : (g h f e : ℕ) → (ltb g h || (eqb g h && leb f e)) ≡ true → (g < h) ⊎ ((g ≡ h) × (f ≤ e))
@@ -58,8 +59,12 @@ module _ {A : Type 0} (group first last : A → ℕ) (apart : A → A → Type 0
               ]
         ]
 
+  -- items stand apart where they do so in order
+  pub apart_as_in_order : (xs sorted : List A) → IsOrderOf group first xs sorted → AllPairs apart sorted → AllPairs apart xs
+  apart_as_in_order xs sorted is pairs = AllPairs-permutation apart apart_back sorted xs (IsPermutation-sym xs sorted is.moved) pairs
+
   pub apart_by_order : (xs sorted : List A) (b : Bool) → IsOrderOf group first xs sorted → (IsTrue b ↔ AllPairs apart sorted) → IsTrue b ↔ AllPairs apart xs
   apart_by_order xs sorted b is tests = (
-    λ yes. AllPairs-permutation apart apart_back sorted xs (IsPermutation-sym xs sorted is.moved) (tests.0 yes),
+    λ yes. apart_as_in_order xs sorted is (tests.0 yes),
     λ h. tests.1 (AllPairs-permutation apart apart_back xs sorted is.moved h),
   )

@@ -10,18 +10,18 @@ use Rattle.xs_scene.specs.Records.{SceneRecord, LevelRecord}
 use Rattle.xs_meaning.specs.Drawings.{number_of, level_of}
 use Rattle.xs_index.specs.declared.index.Index.{Index}
 use Rattle.xs_check.specs.Good.{files_of, level_at, no_drawings, IsThere}
-use Rattle.xs_check.specs.Readers.{drawings_before, IsNumbering, IsSpot, IsKept}
+use Rattle.xs_check.specs.Readers.{drawings_before, IsNumbering, IsOwner, IsKept}
 
 abbrev Owns : List LevelRecord → ℕ → ℕ → ℕ → Type 0
 Owns levels numbered d o = (o < numbered) × (drawings_before levels o ≤ d) × (d < drawings_before levels (o + 1))
 
 -- all levels have all the drawings
-pub all_drawings : (levels : List LevelRecord) → drawings_before levels (length levels) ≡ length (files_of levels)
+all_drawings : (levels : List LevelRecord) → drawings_before levels (length levels) ≡ length (files_of levels)
 all_drawings levels =
     ap (λ ls. sum_by (λ (l : LevelRecord). length l.drawings) ls) (take_all (length levels) levels (omega arith))
     ∙ sym (length-flat_map (λ (l : LevelRecord). l.drawings) levels)
 
-pub number_below :
+number_below :
     (levels : List LevelRecord) (level index : ℕ) → level < length levels → index < length (level_at levels level).drawings
     → number_of levels level index < length (files_of levels)
 number_below levels level index inside below =
@@ -44,11 +44,11 @@ level_of_number (l ∷ ls) (suc i) j n e within below is =
     ap (λ b. cond b (Some l) (level_of ls (n - length l.drawings))) (le-ltb n (length l.drawings) (omega (arith, long)))
     ∙ level_of_number ls i j (n - length l.drawings) e (omega arith) below (omega (arith, long))
 
-spot_in :
+owner_in :
     (levels : List LevelRecord) (d i : ℕ) (level : LevelRecord) → i < length levels → drawings_before levels i ≤ d
     → d < drawings_before levels (i + 1) → level ≡ get_or levels i level
-    → IsSpot levels d (d - drawings_before levels i) level
-spot_in levels d i level within from to is =
+    → IsOwner levels d (d - drawings_before levels i) level
+owner_in levels d i level within from to is =
     let files = length-flat_map (λ (l : LevelRecord). l.drawings) (take i levels) in
     let more = sum_by_more (λ (l : LevelRecord). length l.drawings) levels i level within in
     let j = d - drawings_before levels i in
@@ -69,12 +69,12 @@ spot_in levels d i level within from to is =
     }
 
 -- a drawing by the level and the number of the level's first drawing, as they are kept
-pub spot :
+pub owner_of :
     (levels : List LevelRecord) (firsts owners : List ℕ) (d i first : ℕ) (level : LevelRecord)
     → IsNumbering levels (length levels) firsts owners → d < length owners → i ≡ get_or owners d i
     → first ≡ get_or firsts i first → level ≡ get_or levels i level
-    → (i < length firsts) × (i < length levels) × (first ≤ d) × IsSpot levels d (d - first) level
-spot levels firsts owners d i first level kept below owner at is =
+    → (i < length firsts) × (i < length levels) × (first ≤ d) × IsOwner levels d (d - first) level
+owner_of levels firsts owners d i first level kept below owner at is =
     let owned : i ≡ get_or owners d 0 = owner ∙ get_or_default owners d i 0 below in
     let owns = subst (Owns levels (length levels) d) (sym owned) (kept.owner d below) in
     let inside : i < length firsts = omega (arith, owns.0, kept.firsts_length) in
@@ -82,7 +82,7 @@ spot levels firsts owners d i first level kept below owner at is =
       inside,
       owns.0,
       subst (λ n. n ≤ d) (sym from) owns.1,
-      subst (λ n. IsSpot levels d (d - n) level) (sym from) (spot_in levels d i level owns.0 owns.1 owns.2 is),
+      subst (λ n. IsOwner levels d (d - n) level) (sym from) (owner_in levels d i level owns.0 owns.1 owns.2 is),
     )
 
 -- of what is kept with a scene: how many drawings there are, and the first number of a level

@@ -1,18 +1,15 @@
 -- What is told of the lists of a checked scene holds also of those that it lacks
-use Rattle.std.proofs.Common.{◌≡◌, ◌-◌, ℕ, zero, suc, Option, Some, None, All, get_or, AllPairs, Contains, MatchOption, refl, sym, subst, ap, arith}
+use Rattle.std.proofs.Common.{◌≡◌, ◌-◌, ℕ, Option, Some, None, All, AllPairs, Contains, MatchOption, sym, subst, arith}
 use Rattle.std.proofs.lemmas.List.Elements.{All-contains}
 use Rattle.xs_scene.specs.declared.column.Shown.{Shown}
 use Rattle.xs_scene.specs.declared.column.Shown.TheVariants.{Drawing, Sheet}
 use Rattle.xs_scene.specs.declared.seen.Seen.TheVariants.{Empty}
-use Rattle.xs_scene.specs.Records.{SceneRecord, SheetRecord, ColumnRecord, PegRecord, ColoursRecord, ExposureRecord}
+use Rattle.xs_scene.specs.Records.{SceneRecord, SheetRecord, ColumnRecord, ExposureRecord}
 use Rattle.xs_scene.specs.Ranges.{IsExposure, IsShown}
 use Rattle.xs_meaning.specs.Cells.{cell_at, shown_after}
-use Rattle.xs_meaning.specs.Drawings.{no_colours}
-use Rattle.xs_meaning.specs.Places.{own_offset, place_up, peg_at, no_peg}
-use Rattle.xs_meaning.specs.Points.{origin, plus}
 use Rattle.xs_meaning.specs.Walk.{no_sheet, no_column, sheet_at, column_at}
 use Rattle.xs_meaning.proofs.Lists.{All-slice_index_or}
-use Rattle.xs_index.specs.Apart.{AreApart, DifferInRow, DifferInRowOrStyle}
+use Rattle.xs_index.specs.Apart.{AreApart}
 use Rattle.xs_check.specs.Good.{IsGood, IsThere}
 use Rattle.xs_check.specs.Readers.{IsSeen}
 
@@ -62,19 +59,3 @@ module _ (s : SceneRecord) (good : IsGood s) where
   cells_apart =
       of_column (λ column. AllPairs AreApart column.cells) (λ i j d less below. absurd (omega arith))
       (λ i d below j column inside. ((good.sheets i d below).columns j column inside).apart)
-
--- ---- the chain of a peg
-
-pub place_up-zero : (k : SheetRecord) (peg : Option ℕ) (row most : ℕ) → most ≡ 0 → origin ≡ place_up most k peg row
-unfolding place_up
-place_up-zero k peg row zero none = refl
-place_up-zero k peg row (suc n) none = absurd (omega arith)
-
-pub place_up-step : (k : SheetRecord) (row most : ℕ) (peg : Option ℕ) → (most ≡ 0 → ⊥)
-    → MatchOption peg (origin ≡ place_up most k peg row)
-    (λ i. plus (own_offset (peg_at k i).keys row) (place_up (most - 1) k (peg_at k i).parent row) ≡ place_up most k peg row)
-unfolding place_up
-place_up-step k row zero peg some = absurd (some refl)
-place_up-step k row (suc n) None some = refl
-place_up-step k row (suc n) (Some i) some =
-    ap (λ m. plus (own_offset (peg_at k i).keys row) (place_up m k (peg_at k i).parent row)) (let e : suc n - 1 ≡ n = omega arith in e)

@@ -8,13 +8,13 @@ use Rattle.std.specs.BTreeMap.{BTreeMap, get_by}
 use Rattle.std.specs.Cmp.Lexicographic.{slice_cmp}
 use Rattle.std.specs.List.{list_any}
 use Rattle.std.specs.Ordering.{nat_cmp}
-use Rattle.xs_json.specs.declared.code.SceneCode.TheVariants as code
-use Rattle.xs_json.specs.declared.fault.SceneFault.{SceneFault}
+use Rattle.xs_fault.specs.declared.code.SceneCode.TheVariants as code
+use Rattle.xs_fault.specs.declared.fault.SceneFault.{SceneFault}
 use Rattle.xs_scene.specs.Records.{LevelRecord}
 use Rattle.xs_check.specs.Finding.{Unless}
 use Rattle.xs_check.specs.Good.{files_of}
 use Rattle.xs_check.specs.Passes.{file_path, FilesApart}
-use Rattle.xs_graph.specs.First.{IsFirstWithout}
+use Rattle.xs_base.specs.First.{IsFirstWithout}
 use Rattle.xs_check.proofs.Findings.{each_cover, first_found}
 use Rattle.std.specs.Str.{bytes_eq}
 
@@ -28,24 +28,25 @@ or_by true false = refl
 or_by false true = refl
 or_by false false = refl
 
-pub among_more : (names : List (List ℕ)) (d : ℕ) (name q : List ℕ) (was is : Bool) → d < length names → name ≡ get_or names d []
+among_more : (names : List (List ℕ)) (d : ℕ) (name q : List ℕ) (was is : Bool) → d < length names → name ≡ get_or names d []
     → was ≡ among (take d names) q → is ≡ cond (bytes_eq name q) true was → is ≡ among (take (d + 1) names) q
 among_more names d name q was is below at old new =
-    new ∙ ap (λ (a : Bool). cond (bytes_eq name q) true a) old ∙ rw (list_any_more (λ n. bytes_eq n q) names d [] below, ← at) (or_by (among (take d names) q) (bytes_eq name q))
+    new ∙ ap (λ (a : Bool). cond (bytes_eq name q) true a) old
+    ∙ rw (list_any_more (λ n. bytes_eq n q) names d [] below, ← at) (or_by (among (take d names) q) (bytes_eq name q))
 
-pub among_repeats : (earlier : List (List ℕ)) (name : List ℕ) → among earlier name ≡ true → All (λ e. e ≢ name) earlier → ⊥
+among_repeats : (earlier : List (List ℕ)) (name : List ℕ) → among earlier name ≡ true → All (λ e. e ≢ name) earlier → ⊥
 among_repeats earlier name found differ =
     let (k, x, below, is, same) = Any-from_list_any (λ n. bytes_eq n name) earlier found in
     differ k x below (is ∙ (bytes_eq-Decides x name).0 same)
 
-pub not_among_differs : (earlier : List (List ℕ)) (name : List ℕ) → among earlier name ≡ false → All (λ e. e ≢ name) earlier
+not_among_differs : (earlier : List (List ℕ)) (name : List ℕ) → among earlier name ≡ false → All (λ e. e ≢ name) earlier
 not_among_differs earlier name none k d below same =
     false≢true
     (sym none
     ∙ list_any-from_Any (λ n. bytes_eq n name) earlier
     (k, get_or earlier k d, below, get_or_default earlier k (get_or earlier k d) d below, (bytes_eq-Decides (get_or earlier k d) name).1 same))
 
-pub is_some_cond : {X : Type 0} (b : Bool) (x : X) (o : Option X) → is_some (cond b (Some x) o) ≡ cond b true (is_some o)
+is_some_cond : {X : Type 0} (b : Bool) (x : X) (o : Option X) → is_some (cond b (Some x) o) ≡ cond b true (is_some o)
 is_some_cond true x o = refl
 is_some_cond false x o = refl
 
@@ -76,12 +77,14 @@ module _ (files : List (Bor (List ℕ))) (d : ℕ) (known : BTreeMap (Bor (List 
   text_differs old is found = not_among_differs (take d (texts files)) (get_or (texts files) d []) (text_among old false is found)
 
   pub knows_more : (new : BTreeMap (Bor (List ℕ)) (Unit {0})) → d < length (texts files)
-      → ((q : List ℕ) → get_by (λ k. slice_cmp nat_cmp q k.now) new ≡ cond (bytes_eq (get_or files d no_text).now q) (Some tt) (get_by (λ k. slice_cmp nat_cmp q k.now) known))
+      → ((q : List ℕ) → get_by (λ k. slice_cmp nat_cmp q k.now) new ≡ cond (bytes_eq (get_or files d no_text).now q) (Some tt)
+      (get_by (λ k. slice_cmp nat_cmp q k.now) known))
       → (q : List ℕ) → is_some (get_by (λ k. slice_cmp nat_cmp q k.now) new) ≡ among (take (d + 1) (texts files)) q
   knows_more new below updated q =
       among_more (texts files) d (get_or files d no_text).now q (is_some (get_by (λ k. slice_cmp nat_cmp q k.now) known))
       (is_some (get_by (λ k. slice_cmp nat_cmp q k.now) new)) below (sym text_is) (knows q)
-      (ap (λ (o : Option (Unit {0})). is_some o) (updated q) ∙ is_some_cond (bytes_eq (get_or files d no_text).now q) tt (get_by (λ k. slice_cmp nat_cmp q k.now) known))
+      (ap (λ (o : Option (Unit {0})). is_some o) (updated q)
+      ∙ is_some_cond (bytes_eq (get_or files d no_text).now q) tt (get_by (λ k. slice_cmp nat_cmp q k.now) known))
 
 pub files_first : (levels : List LevelRecord) (names : List (List ℕ)) (first : Option ℕ) (found : Option SceneFault) → names ≡ files_of levels
     → IsFirstWithout (λ d. All (λ e. e ≢ get_or names d []) (take d names)) (length names) first

@@ -26,5 +26,6 @@ pub style_at-has :
     → pixel_of (keyed (key_at c row style) written) ≡ style_at c row none_dropped style
 unfolding style_at
 style_at-has c row style written positive is =
-    sym (ap (λ b. cond (b || false) clear (option_map_or (λ s. pixel_of (keyed (key_at c row style) s)) (slice_get c.styles style) clear)) (ne_eqb style 0 positive)
+    sym (ap (λ b. cond (b || false) clear (option_map_or (λ s. pixel_of (keyed (key_at c row style) s)) (slice_get c.styles style) clear))
+    (ne_eqb style 0 positive)
     ∙ ap (λ o. option_map_or (λ s. pixel_of (keyed (key_at c row style) s)) o clear) is)

@@ -1,6 +1,6 @@
 use Rattle.std.specs.Prelude.{Bool, true, false}
-use Rattle.xs_json.specs.declared.code.SceneCode.{SceneCode}
-use Rattle.xs_json.specs.declared.code.SceneCode.TheVariants as scene
+use Rattle.xs_fault.specs.declared.code.SceneCode.{SceneCode}
+use Rattle.xs_fault.specs.declared.code.SceneCode.TheVariants as scene
 
 -- the codes of what checking finds
 abbrev pub is_of_checking : SceneCode → Bool

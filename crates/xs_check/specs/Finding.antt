@@ -1,10 +1,10 @@
 -- What a check finds: the first fault in its order, or nothing.
 use Rattle.std.specs.Prelude.{◌≡◌, ◌+◌, ◌⊎◌, ℕ, List, [], ◌∷◌, Option, Some, None, Result, Ok, Err}
-use Rattle.xs_json.specs.Paths.{index_at}
-use Rattle.xs_json.specs.declared.code.SceneCode.{SceneCode}
-use Rattle.xs_json.specs.declared.fault.SceneFault.{SceneFault}
-use Rattle.xs_json.specs.declared.fault.FieldFault.{FieldFault}
-use Rattle.xs_json.specs.declared.fault.FieldFault.TheVariants as errors
+use Rattle.xs_fault.specs.Paths.{index_at}
+use Rattle.xs_fault.specs.declared.code.SceneCode.{SceneCode}
+use Rattle.xs_fault.specs.declared.fault.SceneFault.{SceneFault}
+use Rattle.xs_fault.specs.declared.fault.FieldFault.{FieldFault}
+use Rattle.xs_fault.specs.declared.fault.FieldFault.TheVariants as errors
 
 abbrev pub Finding : Type 1
 Finding = Option SceneFault → Type 0
@@ -44,8 +44,8 @@ Finds (Err errors.Memory) F = Unit {0}
 Finds (Err (errors.Fault fault)) F = F (Some fault)
 
 -- a fault of this code at the first of some elements of the list at a path, if one was found
-abbrev pub TellsFirst : SceneCode → List ℕ → Option ℕ → Result (Unit {0}) FieldFault → Type 0
-TellsFirst code at first (Ok x) = first ≡ None
-TellsFirst code at first (Err errors.Memory) = Unit {0}
-TellsFirst code at first (Err (errors.Fault fault)) =
+abbrev pub IsFaultAtFirst : SceneCode → List ℕ → Option ℕ → Result (Unit {0}) FieldFault → Type 0
+IsFaultAtFirst code at first (Ok x) = first ≡ None
+IsFaultAtFirst code at first (Err errors.Memory) = Unit {0}
+IsFaultAtFirst code at first (Err (errors.Fault fault)) =
     (i : ℕ) × (first ≡ Some i) × (fault ≡ record { code = code; path = index_at at i })

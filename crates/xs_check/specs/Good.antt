@@ -1,5 +1,6 @@
 -- What checking establishes of a scene.
 use Rattle.xs_index.specs.Apart.{AreApart, DifferInRow, DifferInRowOrStyle}
+use Rattle.xs_base.specs.declared.limits.TheConstants.{MOST_STYLES, MOST_STYLE_KEYS, MOST_FILTER_STYLES, LONGEST_SHUFFLE, MOST_COLUMNS, MOST_NODES, MOST_TERMINALS}
 use Rattle.std.specs.Prelude.{◌≢◌, ◌≤◌, ◌<◌, ℕ, List, [], Some, IfSome, All, AllPairs, length, flat_map, slice_index_or}
 use Rattle.xs_scene.specs.declared.level.Kind.{Kind}
 use Rattle.xs_scene.specs.declared.level.Kind.TheVariants.{Colour, Cm32}
@@ -46,8 +47,8 @@ files_of levels = flat_map (λ l. l.drawings) levels
 -- ---- a good scene
 
 pub record IsGoodPalette (c : ColoursRecord) : Type 0 where
-  pub styles : length c.styles ≤ 4096
-  pub keys : length c.keys ≤ 4096
+  pub styles : length c.styles ≤ MOST_STYLES
+  pub keys : length c.keys ≤ MOST_STYLE_KEYS
   pub names : All (λ key. key.style < length c.styles) c.keys
   pub differ : AllPairs DifferInRowOrStyle c.keys
 
@@ -60,11 +61,10 @@ pub record IsGoodColumn (s : SceneRecord) (k : SheetRecord) (column : ColumnReco
   pub shown : All (λ e. IsThere s e.shown) column.cells
   pub apart : AllPairs AreApart column.cells
 
--- a shuffle has at most 9999 rows, a palette filter at most 4096 styles
 abbrev pub HasFewEntries : Node → Type 0
-HasFewEntries (Shuffle input list) = length list ≤ 9999
-HasFewEntries (Keep input styles) = length styles ≤ 4096
-HasFewEntries (Delete input styles) = length styles ≤ 4096
+HasFewEntries (Shuffle input list) = length list ≤ LONGEST_SHUFFLE
+HasFewEntries (Keep input styles) = length styles ≤ MOST_FILTER_STYLES
+HasFewEntries (Delete input styles) = length styles ≤ MOST_FILTER_STYLES
 HasFewEntries _ = Unit {0}
 
 pub record IsGoodNode (k : SheetRecord) (node : Node) : Type 0 where
@@ -72,9 +72,9 @@ pub record IsGoodNode (k : SheetRecord) (node : Node) : Type 0 where
   pub inputs : InputsHave (Targets k) (Some node)
 
 pub record IsGoodSheet (s : SceneRecord) (k : SheetRecord) : Type 0 where
-  pub few_columns : length k.columns ≤ 1024
-  pub few_nodes : length k.nodes ≤ 256
-  pub few_out : IfSome k.out (λ out. length out ≤ 1024)
+  pub few_columns : length k.columns ≤ MOST_COLUMNS
+  pub few_nodes : length k.nodes ≤ MOST_NODES
+  pub few_out : IfSome k.out (λ out. length out ≤ MOST_TERMINALS)
   pub pegs : All (IsGoodPeg k) k.pegs
   pub columns : All (IsGoodColumn s k) k.columns
   pub nodes : All (IsGoodNode k) k.nodes

@@ -1,8 +1,7 @@
 pub mod Finding
 pub mod Codes
 pub mod Links
-pub mod Apart
+pub mod Shared
 pub mod Good
-pub mod ApartTold
 pub mod Passes
 pub mod Readers

@@ -1,19 +1,23 @@
 -- The passes of checking. Each goes through the scene in the order camera, palettes, levels, sheets, and
 -- in each sheet pegs, columns, nodes, out.
-use Rattle.std.specs.Prelude.{◌≢◌, ◌≤◌, ◌<◌, ◌+◌, ◌-◌, ℕ, nat_lt, List, [], ◌∷◌, All, length, take, if◌then◌else◌}
-use Rattle.xs_json.specs.declared.code.SceneCode.{SceneCode}
-use Rattle.xs_json.specs.declared.code.SceneCode.TheVariants as code
-use Rattle.xs_json.specs.declared.field.Field.TheVariants as field
-use Rattle.xs_json.specs.Paths.{index_at}
-use Rattle.xs_json.specs.Objects.{path_of}
+use Rattle.std.specs.Prelude.{◌≢◌, ◌≤◌, ◌<◌, ◌+◌, ◌-◌, ℕ, nat_lt, List, [], ◌∷◌, All, length, map, take, if◌then◌else◌}
+use Rattle.xs_base.specs.declared.limits.TheConstants.{MOST_STYLES, MOST_STYLE_KEYS, MOST_FILTER_STYLES, LONGEST_SHUFFLE, MOST_COLUMNS, MOST_NODES, MOST_TERMINALS, LONGEST_PEG_CHAIN, DEEPEST_NEST}
+use Rattle.xs_fault.specs.declared.code.SceneCode.{SceneCode}
+use Rattle.xs_fault.specs.declared.code.SceneCode.TheVariants as code
+use Rattle.xs_fault.specs.declared.field.Field.TheVariants as field
+use Rattle.xs_fault.specs.Paths.{index_at}
+use Rattle.xs_fault.specs.Paths.{path_of}
 use Rattle.xs_scene.specs.declared.level.Kind.{Kind}
 use Rattle.xs_scene.specs.declared.level.Kind.TheVariants.{Colour, Cm32}
 use Rattle.xs_scene.specs.declared.column.Shown.{Shown}
 use Rattle.xs_scene.specs.declared.column.Shown.TheVariants.{Drawing, Sheet}
 use Rattle.xs_scene.specs.declared.node.Ref.{Ref}
 use Rattle.xs_scene.specs.declared.node.Ref.TheVariants.{Column as ToColumn, Node as ToNode}
+use Rattle.xs_scene.specs.declared.node.Inputs.{Inputs}
+use Rattle.xs_scene.specs.declared.node.Inputs.TheVariants.{Zero, One, Two}
 use Rattle.xs_scene.specs.declared.node.Node.{Node}
 use Rattle.xs_scene.specs.declared.node.Node.TheVariants.{Pair, Card, Shuffle, Blur, Keep, Delete}
+use Rattle.xs_scene.specs.Inputs.{inputs_of_node}
 use Rattle.xs_scene.specs.Records.{SceneRecord, SheetRecord, ColoursRecord, LevelRecord, PegRecord, ColumnRecord, ExposureRecord}
 use Rattle.xs_meaning.specs.Walk.{sheet_at}
 use Rattle.xs_check.specs.Finding.{Finding, Nothing, Unless, Then, Each, EachAt, IfThere}
@@ -33,22 +37,22 @@ abbrev pub AtMost : {A : Type 0} → ℕ → List ℕ → List A → Finding
 AtMost limit at xs = Unless code.TooMany at (length xs ≤ limit)
 
 abbrev pub PaletteSizes : List ℕ → ColoursRecord → Finding
-PaletteSizes at c = Then (AtMost 4096 at c.styles) (AtMost 4096 (path_of field.Keys at) c.keys)
+PaletteSizes at c = Then (AtMost MOST_STYLES at c.styles) (AtMost MOST_STYLE_KEYS (path_of field.Keys at) c.keys)
 
 abbrev pub NodeSizes : List ℕ → Node → Finding
-NodeSizes at (Shuffle input list) = AtMost 9999 (path_of field.List at) list
-NodeSizes at (Keep input styles) = AtMost 4096 (path_of field.Styles at) styles
-NodeSizes at (Delete input styles) = AtMost 4096 (path_of field.Styles at) styles
+NodeSizes at (Shuffle input list) = AtMost LONGEST_SHUFFLE (path_of field.List at) list
+NodeSizes at (Keep input styles) = AtMost MOST_FILTER_STYLES (path_of field.Styles at) styles
+NodeSizes at (Delete input styles) = AtMost MOST_FILTER_STYLES (path_of field.Styles at) styles
 NodeSizes at (Pair op first second) = Nothing
 NodeSizes at (Card style) = Nothing
 NodeSizes at (Blur input radius) = Nothing
 
 abbrev pub SheetSizes : List ℕ → SheetRecord → Finding
 SheetSizes at k =
-    Then (AtMost 1024 (path_of field.Columns at) k.columns)
-    (Then (AtMost 256 (path_of field.Nodes at) k.nodes)
+    Then (AtMost MOST_COLUMNS (path_of field.Columns at) k.columns)
+    (Then (AtMost MOST_NODES (path_of field.Nodes at) k.nodes)
     (Then (EachAt (path_of field.Nodes at) NodeSizes k.nodes)
-    (IfThere (AtMost 1024 (path_of field.Out at)) k.out)))
+    (IfThere (AtMost MOST_TERMINALS (path_of field.Out at)) k.out)))
 
 -- lists that are too long
 abbrev pub Sizes : SceneRecord → Finding
@@ -59,53 +63,53 @@ Sizes s =
 -- ---- references
 
 -- a number at a path names one of some things
-abbrev pub Names : {A : Type 0} → List ℕ → List A → ℕ → Finding
-Names at things number = Unless code.NoSuchReference at (number < length things)
+abbrev pub NamesOne : {A : Type 0} → List ℕ → List A → ℕ → Finding
+NamesOne at things number = Unless code.NoSuchReference at (number < length things)
 
 abbrev pub CameraReference : SceneRecord → Finding
 CameraReference s =
-    IfThere (Names (path_of field.Peg (path_of field.Camera [])) (sheet_at s.sheets 0).pegs) s.camera.peg
+    IfThere (NamesOne (path_of field.Peg (path_of field.Camera [])) (sheet_at s.sheets 0).pegs) s.camera.peg
 
 abbrev pub PaletteReferences : List ℕ → ColoursRecord → Finding
 PaletteReferences at c =
-    EachAt (path_of field.Keys at) (λ at key. Names (path_of field.Style at) c.styles key.style) c.keys
+    EachAt (path_of field.Keys at) (λ at key. NamesOne (path_of field.Style at) c.styles key.style) c.keys
 
 abbrev pub KindReference : SceneRecord → List ℕ → Kind → Finding
 KindReference s at Colour = Nothing
-KindReference s at (Cm32 palette) = Names (path_of field.Palette at) s.palettes palette
+KindReference s at (Cm32 palette) = NamesOne (path_of field.Palette at) s.palettes palette
 
 unfoldable pub LevelReference : SceneRecord → List ℕ → LevelRecord → Finding
 LevelReference s at level = KindReference s at level.kind
 
 abbrev pub ShownReferences : SceneRecord → List ℕ → Shown → Finding
 ShownReferences s at (Drawing level index) =
-    Then (Names (path_of field.Level at) s.levels level)
-    (Names (path_of field.Drawing at) (level_at s.levels level).drawings index)
-ShownReferences s at (Sheet sheet start) = Names (path_of field.Sheet at) s.sheets sheet
+    Then (NamesOne (path_of field.Level at) s.levels level)
+    (NamesOne (path_of field.Drawing at) (level_at s.levels level).drawings index)
+ShownReferences s at (Sheet sheet start) = NamesOne (path_of field.Sheet at) s.sheets sheet
 
 unfoldable pub CellReferences : SceneRecord → List ℕ → ExposureRecord → Finding
 CellReferences s at e = ShownReferences s at e.shown
 
 abbrev pub PegReference : SheetRecord → List ℕ → PegRecord → Finding
-PegReference k at peg = IfThere (Names (path_of field.Parent at) k.pegs) peg.parent
+PegReference k at peg = IfThere (NamesOne (path_of field.Parent at) k.pegs) peg.parent
 
 abbrev pub ColumnReferences : SceneRecord → SheetRecord → List ℕ → ColumnRecord → Finding
 ColumnReferences s k at column =
-    Then (IfThere (Names (path_of field.Peg at) k.pegs) column.peg)
+    Then (IfThere (NamesOne (path_of field.Peg at) k.pegs) column.peg)
     (EachAt (path_of field.Cells at) (CellReferences s) column.cells)
 
 abbrev pub RefReference : SheetRecord → List ℕ → Ref → Finding
-RefReference k at (ToColumn c) = Names (path_of field.Column at) k.columns c
-RefReference k at (ToNode n) = Names (path_of field.Node at) k.nodes n
+RefReference k at (ToColumn c) = NamesOne (path_of field.Column at) k.columns c
+RefReference k at (ToNode n) = NamesOne (path_of field.Node at) k.nodes n
 
-abbrev pub NodeReferences : SheetRecord → List ℕ → Node → Finding
-NodeReferences k at (Pair op first second) =
+abbrev pub InputReferences : SheetRecord → List ℕ → Inputs → Finding
+InputReferences k at Zero = Nothing
+InputReferences k at (One input) = RefReference k (path_of field.Input at) input
+InputReferences k at (Two first second) =
     Then (RefReference k (path_of field.First at) first) (RefReference k (path_of field.Second at) second)
-NodeReferences k at (Card style) = Nothing
-NodeReferences k at (Shuffle input list) = RefReference k (path_of field.Input at) input
-NodeReferences k at (Blur input radius) = RefReference k (path_of field.Input at) input
-NodeReferences k at (Keep input styles) = RefReference k (path_of field.Input at) input
-NodeReferences k at (Delete input styles) = RefReference k (path_of field.Input at) input
+
+unfoldable pub NodeReferences : SheetRecord → List ℕ → Node → Finding
+NodeReferences k at node = InputReferences k at (inputs_of_node node)
 
 abbrev pub SheetReferences : SceneRecord → List ℕ → SheetRecord → Finding
 SheetReferences s at k =
@@ -172,47 +176,45 @@ Overlaps s =
 
 -- ---- cycles and chains
 
--- no thing of the list at a path lies on a cycle
-unfoldable pub NoCycles : {A : Type 0} → SceneCode → Links → List ℕ → List A → Finding
-NoCycles code links at things =
-    Each (λ i thing. Unless code (index_at at i) (LiesOnCycle links i → ⊥)) 0 things
+-- of the things in the list at a path, which have these links, none lies on a cycle
+unfoldable pub NoCycles : SceneCode → Links → List ℕ → Finding
+NoCycles code links at = Each (λ i targets. Unless code (index_at at i) (LiesOnCycle links i → ⊥)) 0 links
 
--- no chain of more than so many things, which stand in the list at a path, begins at one of them: a
--- chain of one more has as many steps
-unfoldable pub NoLongChains : {A : Type 0} → ℕ → Links → List ℕ → List A → Finding
-NoLongChains most links at things =
-    Each (λ i thing. Unless code.TooMany (index_at at i) (HasChain links most i → ⊥)) 0 things
+-- and at none begins a chain of more than so many things: a chain of one more has as many steps
+unfoldable pub NoLongChains : ℕ → Links → List ℕ → Finding
+NoLongChains most links at = Each (λ i targets. Unless code.TooMany (index_at at i) (HasChain links most i → ⊥)) 0 links
 
--- pegs that lie on a cycle of parents
-abbrev pub SheetPegCycles : List ℕ → SheetRecord → Finding
-SheetPegCycles at k = NoCycles code.PegCycle (parent_links k) (path_of field.Pegs at) k.pegs
+-- pegs that lie on a cycle of parents, by the parents of the pegs of each sheet
+abbrev pub SheetPegCycles : List ℕ → Links → Finding
+SheetPegCycles at parents = NoCycles code.PegCycle parents (path_of field.Pegs at)
 
-abbrev pub PegCycles : SceneRecord → Finding
-PegCycles s = EachAt sheets_at SheetPegCycles s.sheets
+abbrev pub PegCycles : List Links → Finding
+PegCycles parents = EachAt sheets_at SheetPegCycles parents
 
 -- nodes that lie on a cycle of inputs
 abbrev pub SheetNodeCycles : List ℕ → SheetRecord → Finding
-SheetNodeCycles at k = NoCycles code.NodeCycle (input_links k) (path_of field.Nodes at) k.nodes
+SheetNodeCycles at k = NoCycles code.NodeCycle (input_links k) (path_of field.Nodes at)
 
 abbrev pub NodeCycles : SceneRecord → Finding
 NodeCycles s = EachAt sheets_at SheetNodeCycles s.sheets
 
--- sheets that lie on a cycle of exposures
-abbrev pub SheetCycles : SceneRecord → Finding
-SheetCycles s = NoCycles code.SheetCycle (sheet_links s.sheets) sheets_at s.sheets
+-- sheets that lie on a cycle of exposures, by the sheets that each exposes
+abbrev pub SheetCycles : Links → Finding
+SheetCycles nested = NoCycles code.SheetCycle nested sheets_at
 
--- pegs at which a chain of more than 64 begins, itself counted, and then sheets at which one of more than
--- 16 nested sheets begins
-abbrev pub SheetLongChains : List ℕ → SheetRecord → Finding
-SheetLongChains at k = NoLongChains 64 (parent_links k) (path_of field.Pegs at) k.pegs
+-- pegs at which too long a chain begins, itself counted, and then sheets at which one of nested sheets does
+abbrev pub SheetLongChains : List ℕ → Links → Finding
+SheetLongChains at parents = NoLongChains LONGEST_PEG_CHAIN parents (path_of field.Pegs at)
 
-abbrev pub LongChains : SceneRecord → Finding
-LongChains s =
-    Then (EachAt sheets_at SheetLongChains s.sheets) (NoLongChains 16 (sheet_links s.sheets) sheets_at s.sheets)
+abbrev pub LongChains : List Links → Links → Finding
+LongChains parents nested = Then (EachAt sheets_at SheetLongChains parents) (NoLongChains DEEPEST_NEST nested sheets_at)
 
 -- the seven passes
 abbrev pub Checking : SceneRecord → Finding
 Checking s =
     Then (Sizes s)
     (Then (References s)
-    (Then (Overlaps s) (Then (PegCycles s) (Then (NodeCycles s) (Then (SheetCycles s) (LongChains s))))))
+    (Then (Overlaps s)
+    (Then (PegCycles (map parent_links s.sheets))
+    (Then (NodeCycles s)
+    (Then (SheetCycles (sheet_links s.sheets)) (LongChains (map parent_links s.sheets) (sheet_links s.sheets)))))))

@@ -32,7 +32,7 @@ pub record IsNumbering (levels : List LevelRecord) (numbered : ℕ) (firsts owne
       × (d < drawings_before levels (slice_index owners d + 1))
 
 -- a drawing by the level that has it and its place in the level's list
-pub record IsSpot (levels : List LevelRecord) (d place : ℕ) (owner : LevelRecord) : Type 0 where
+pub record IsOwner (levels : List LevelRecord) (d place : ℕ) (owner : LevelRecord) : Type 0 where
   pub level : level_of levels d ≡ Some owner
   pub among : Contains levels owner
   pub inside : place < length owner.drawings

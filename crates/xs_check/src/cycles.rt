@@ -1,45 +1,44 @@
 //! Pegs, nodes and sheets that lead back to themselves, and chains of them that are too long.
-ghost use Rattle.std.specs.Prelude.{◌≡◌, ◌<◌, [], map};
+ghost use Rattle.std.specs.Prelude.{◌≡◌, ◌<◌, []};
 ghost use Rattle.xs_check.specs.Finding.{Finds};
-ghost use Rattle.xs_json.specs.Objects.{path_of};
+ghost use Rattle.xs_fault.specs.Paths.{path_of};
 ghost use Rattle.xs_check.specs.Passes.{PegCycles, NodeCycles, SheetCycles, LongChains, NoCycles, NoLongChains};
 
 use crate::finding::{Requirement, each, tell_first};
-use crate::limits::{LONGEST_PEG_CHAIN, LONGEST_SHEET_CHAIN};
-use crate::links::{Naming, links_of};
+use crate::links::links_of;
 use std::alloc::Global;
+use xs_base::List;
+use xs_base::limits::{DEEPEST_NEST, LONGEST_PEG_CHAIN};
+use xs_fault::{Field, FieldFault, Path, Place, SceneCode};
 use xs_graph::{first_long, first_on_cycle};
-use xs_json::{Field, FieldFault, Path, Place, SceneCode};
 use xs_scene::{Scene, Sheet};
 
 /// The fault at the first of some things that lies on a cycle.
-fn no_cycles<T: Naming>(
+fn no_cycles(
     alloc: Global,
-    things: &[T],
+    links: &List<List<u32>>,
     code: SceneCode,
     at: &Path,
     field: Field,
 ) -> Result<(), FieldFault>
-    ensures { Finds result (NoCycles code (map T.named things.now) (path_of field at.now) things.now) }
+    ensures { Finds result (NoCycles code links.now (path_of field at.now)) }
 {
-    let links = links_of(alloc, things)?;
-    let first = first_on_cycle(alloc, &links)?;
+    let first = first_on_cycle(alloc, links)?;
     tell_first(alloc, first, code, at, field)
 }
 
 /// The fault at the first of some things at which a chain begins that has more than `most`.
-fn no_long_chains<T: Naming>(
+fn no_long_chains(
     alloc: Global,
-    things: &[T],
+    links: &List<List<u32>>,
     most: u32,
     at: &Path,
     field: Field,
 ) -> Result<(), FieldFault>
     requires { 0 < most }
-    ensures { Finds result (NoLongChains most (map T.named things.now) (path_of field at.now) things.now) }
+    ensures { Finds result (NoLongChains most links.now (path_of field at.now)) }
 {
-    let links = links_of(alloc, things)?;
-    let first = first_long(alloc, &links, most)?;
+    let first = first_long(alloc, links, most)?;
     tell_first(alloc, first, SceneCode::TooMany, at, field)
 }
 
@@ -47,20 +46,14 @@ fn no_long_chains<T: Naming>(
 #[derive(Drop)]
 struct PegCycle;
 
-impl Requirement<Sheet> for PegCycle {
+impl Requirement<List<List<u32>>> for PegCycle {
     ghost use Rattle.xs_check.specs.Passes.{SheetPegCycles};
 
     ghost finds = { λ _. SheetPegCycles };
 
-    fn look(&self, alloc: Global, item: &Sheet, at: &Place) -> Result<(), FieldFault> {
+    fn look(&self, alloc: Global, item: &List<List<u32>>, at: &Place) -> Result<(), FieldFault> {
         let path = at.path(alloc)?;
-        no_cycles(
-            alloc,
-            item.pegs.items(),
-            SceneCode::PegCycle,
-            &path,
-            Field::Pegs,
-        )
+        no_cycles(alloc, item, SceneCode::PegCycle, &path, Field::Pegs)
     }
 }
 
@@ -75,13 +68,8 @@ impl Requirement<Sheet> for NodeCycle {
 
     fn look(&self, alloc: Global, item: &Sheet, at: &Place) -> Result<(), FieldFault> {
         let path = at.path(alloc)?;
-        no_cycles(
-            alloc,
-            item.nodes.items(),
-            SceneCode::NodeCycle,
-            &path,
-            Field::Nodes,
-        )
+        let links = links_of(alloc, item.nodes.items())?;
+        no_cycles(alloc, &links, SceneCode::NodeCycle, &path, Field::Nodes)
     }
 }
 
@@ -89,29 +77,27 @@ impl Requirement<Sheet> for NodeCycle {
 #[derive(Drop)]
 struct LongChain;
 
-impl Requirement<Sheet> for LongChain {
+impl Requirement<List<List<u32>>> for LongChain {
     ghost use Rattle.xs_check.specs.Passes.{SheetLongChains};
 
     ghost finds = { λ _. SheetLongChains };
 
-    fn look(&self, alloc: Global, item: &Sheet, at: &Place) -> Result<(), FieldFault> {
+    fn look(&self, alloc: Global, item: &List<List<u32>>, at: &Place) -> Result<(), FieldFault> {
         let path = at.path(alloc)?;
-        no_long_chains(
-            alloc,
-            item.pegs.items(),
-            LONGEST_PEG_CHAIN,
-            &path,
-            Field::Pegs,
-        )
+        no_long_chains(alloc, item, LONGEST_PEG_CHAIN, &path, Field::Pegs)
     }
 }
 
-/// The first peg that is its own ancestor.
-pub fn peg_cycles(alloc: Global, scene: &Scene, top: &Path) -> Result<(), FieldFault>
+/// The first peg that is its own ancestor, by the parents of the pegs of each sheet.
+pub fn peg_cycles(
+    alloc: Global,
+    parents: &List<List<List<u32>>>,
+    top: &Path,
+) -> Result<(), FieldFault>
     requires { top.now ≡ [] }
-    ensures { Finds result (PegCycles scene.now) }
+    ensures { Finds result (PegCycles parents.now) }
 {
-    each(alloc, &PegCycle, scene.sheets.items(), top, Field::Sheets)
+    each(alloc, &PegCycle, parents.items(), top, Field::Sheets)
 }
 
 /// The first node that is among its own inputs.
@@ -122,32 +108,25 @@ pub fn node_cycles(alloc: Global, scene: &Scene, top: &Path) -> Result<(), Field
     each(alloc, &NodeCycle, scene.sheets.items(), top, Field::Sheets)
 }
 
-/// The first sheet that shows itself.
-pub fn sheet_cycles(alloc: Global, scene: &Scene, top: &Path) -> Result<(), FieldFault>
+/// The first sheet that shows itself, by the sheets that each shows.
+pub fn sheet_cycles(alloc: Global, nested: &List<List<u32>>, top: &Path) -> Result<(), FieldFault>
     requires { top.now ≡ [] }
-    ensures { Finds result (SheetCycles scene.now) }
+    ensures { Finds result (SheetCycles nested.now) }
 {
-    no_cycles(
-        alloc,
-        scene.sheets.items(),
-        SceneCode::SheetCycle,
-        top,
-        Field::Sheets,
-    )
+    no_cycles(alloc, nested, SceneCode::SheetCycle, top, Field::Sheets)
 }
 
 /// The first peg at which a chain of more than `LONGEST_PEG_CHAIN` pegs begins; without one, the first sheet
-/// at which a chain of more than `LONGEST_SHEET_CHAIN` nested sheets begins.
-pub fn long_chains(alloc: Global, scene: &Scene, top: &Path) -> Result<(), FieldFault>
+/// at which a chain of more than `DEEPEST_NEST` nested sheets begins.
+pub fn long_chains(
+    alloc: Global,
+    parents: &List<List<List<u32>>>,
+    nested: &List<List<u32>>,
+    top: &Path,
+) -> Result<(), FieldFault>
     requires { top.now ≡ [] }
-    ensures { Finds result (LongChains scene.now) }
+    ensures { Finds result (LongChains parents.now nested.now) }
 {
-    each(alloc, &LongChain, scene.sheets.items(), top, Field::Sheets)?;
-    no_long_chains(
-        alloc,
-        scene.sheets.items(),
-        LONGEST_SHEET_CHAIN,
-        top,
-        Field::Sheets,
-    )
+    each(alloc, &LongChain, parents.items(), top, Field::Sheets)?;
+    no_long_chains(alloc, nested, DEEPEST_NEST, top, Field::Sheets)
 }

@@ -3,12 +3,12 @@ ghost use Rattle.std.specs.Prelude.{◌≡◌, ◌≢◌, ◌++◌, [], IfOk, On
 ghost use Rattle.xs_check.specs.Finding.{Finds};
 ghost use Rattle.xs_check.specs.Good.{files_of as names_of};
 ghost use Rattle.xs_check.specs.Passes.{file_path as path_by_number, drawing_path as path_by_place, FilesApart};
-ghost use Rattle.xs_graph.specs.First.{IsFirstWithout};
+ghost use Rattle.xs_base.specs.First.{IsFirstWithout};
 
 use std::alloc::{AllocError, Global};
 use std::collections::BTreeMap;
-use xs_json::{Field, FieldFault, Path, Place, SceneCode, SceneFault};
-use xs_pixel::Memory;
+use xs_base::Memory;
+use xs_fault::{Field, FieldFault, Path, Place, SceneCode, SceneFault};
 use xs_scene::{Level, Name};
 
 /// Adds the names of the drawings of a level.

@@ -1,13 +1,13 @@
 //! What checking finds: the first fault, in the order of the elements of lists.
 ghost use Rattle.std.specs.Prelude.{ℕ};
 ghost use Rattle.std.specs.Prelude.{List as Items};
-ghost use Rattle.xs_check.specs.Finding.{Finding, Finds, EachAt, TellsFirst};
-ghost use Rattle.xs_json.specs.Objects.{path_of};
-ghost use Rattle.xs_json.specs.Paths.{index_at};
-ghost use Rattle.xs_json.specs.Reading.{Tells};
+ghost use Rattle.xs_check.specs.Finding.{Finding, Finds, EachAt, IsFaultAtFirst};
+ghost use Rattle.xs_fault.specs.Paths.{path_of};
+ghost use Rattle.xs_fault.specs.Paths.{index_at};
+ghost use Rattle.xs_fault.specs.Faults.{IsFaultAt};
 
 use std::alloc::Global;
-use xs_json::{Field, FieldFault, Path, Place, SceneCode};
+use xs_fault::{Field, FieldFault, Path, Place, SceneCode};
 
 /// What is required of each element of a list, and told by its first fault.
 pub trait Requirement<T> {
@@ -57,7 +57,7 @@ pub fn each<T, R: Requirement<T>>(
 
 /// The fault at an element of the list under a field of the object at `at`.
 fn fault_of(alloc: Global, code: SceneCode, at: &Path, field: Field, i: usize) -> FieldFault
-    ensures { Tells code (index_at (path_of field at.now) i) result }
+    ensures { IsFaultAt code (index_at (path_of field at.now) i) result }
 {
     let (Ok(list), Ok(i)) = (Place::key(at, field).path(alloc), u32::try_from(i)) else {
         return FieldFault::Memory;
@@ -73,7 +73,7 @@ pub fn tell_first(
     at: &Path,
     field: Field,
 ) -> Result<(), FieldFault>
-    ensures { TellsFirst code (path_of field at.now) first result }
+    ensures { IsFaultAtFirst code (path_of field at.now) first result }
 {
     match first {
         Some(i) => Err(fault_of(alloc, code, at, field, i)),

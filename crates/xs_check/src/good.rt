@@ -2,17 +2,19 @@
 ghost use Rattle.std.specs.Prelude.{◌≡◌, IfOk};
 ghost use Rattle.xs_check.specs.Finding.{Finds};
 ghost use Rattle.xs_check.specs.Passes.{Checking};
+ghost use Rattle.xs_index.specs.Index.{IsIndexOf};
 
 use crate::cycles::{long_chains, node_cycles, peg_cycles, sheet_cycles};
+use crate::links::{links_of, parents_of};
 use crate::numbers::{Numbers, numbers_of};
 use crate::overlaps::overlaps;
 use crate::references::references;
 use crate::sizes::sizes;
 use std::alloc::Global;
 use std::marker::Model;
+use xs_fault::{FieldFault, Path};
 use xs_graph::laws::{chains_are_told_link_by_link, chains_without_a_cycle_are_short};
 use xs_index::Index;
-use xs_json::{FieldFault, Path};
 use xs_scene::{Scene, Sheet};
 
 /// A scene in which every number names a thing, nothing stands twice where one may, nothing leads back to
@@ -36,18 +38,23 @@ impl Model for GoodScene {
     ghost invariant = { λ g. IsKept g.scene g.index g.numbers.firsts.items g.numbers.owners.items };
 }
 
-/// The first fault, in the order of the passes.
-fn first_fault(alloc: Global, scene: &Scene) -> Result<(), FieldFault>
-    ensures { Finds result (Checking scene.now) }
+/// The first fault, in the order of the passes, or the index of a scene without one.
+fn first_fault(alloc: Global, scene: &Scene) -> Result<Index, FieldFault>
+    ensures found { Finds result (Checking scene.now) }
+    ensures index { IfOk result (IsIndexOf scene.now) }
 {
     sizes(alloc, scene)?;
     references(alloc, scene)?;
-    overlaps(alloc, scene)?;
+    let index = Index::of(alloc, scene)?;
+    overlaps(alloc, scene, &index)?;
     let top = Path::root(alloc);
-    peg_cycles(alloc, scene, &top)?;
+    let parents = parents_of(alloc, scene.sheets.items())?;
+    let nested = links_of(alloc, scene.sheets.items())?;
+    peg_cycles(alloc, &parents, &top)?;
     node_cycles(alloc, scene, &top)?;
-    sheet_cycles(alloc, scene, &top)?;
-    long_chains(alloc, scene, &top)
+    sheet_cycles(alloc, &nested, &top)?;
+    long_chains(alloc, &parents, &nested, &top)?;
+    Ok(index)
 }
 
 /// The checked scene, or its first fault in the order of the passes: TooMany where a list is too long;
@@ -58,11 +65,11 @@ pub fn check(alloc: Global, s: Scene) -> Result<GoodScene, FieldFault>
     ensures checked { Finds result (Checking s) }
     ensures same { IfOk result (λ g. g ≡ s) }
 {
-    first_fault(alloc, &s)?;
+    let index = first_fault(alloc, &s)?;
+    // The ranges that the types of the scene keep; no pass goes over every style and name.
     s.in_range();
     chains_are_told_link_by_link();
     chains_without_a_cycle_are_short();
-    let index = Index::of(alloc, &s)?;
     let numbers = numbers_of(alloc, s.levels.items())?;
     Ok(GoodScene {
         scene: s,

@@ -1,6 +1,6 @@
 //! Laws of checking.
 ghost use Rattle.std.specs.Prelude.{◌≡◌, true, Option, Some};
-ghost use Rattle.xs_json.specs.declared.fault.SceneFault.{SceneFault};
+ghost use Rattle.xs_fault.specs.declared.fault.SceneFault.{SceneFault};
 ghost use Rattle.xs_scene.specs.Records.{SceneRecord};
 ghost use Rattle.xs_check.specs.Codes.{is_of_checking};
 ghost use Rattle.xs_check.specs.Passes.{Checking};

@@ -2,18 +2,17 @@
 //! to itself, and every size is within its limit. What passes is a `GoodScene`.
 #![tactic(auto)]
 
-mod apart;
 mod cycles;
 mod files;
 mod finding;
 mod good;
 pub mod laws;
-mod limits;
 mod links;
 mod numbers;
 mod overlaps;
 mod readers;
 mod references;
+mod shared;
 mod sizes;
 
 pub use good::{GoodScene, check};

@@ -2,11 +2,11 @@
 ghost use Rattle.std.specs.Prelude.{◌≡◌, ◌++◌, ℕ, IfOk, OnOk, map, flat_map};
 ghost use Rattle.std.specs.Prelude.{List as Items};
 ghost use Rattle.xs_meaning.specs.Inputs.{nodes_of};
-ghost use Rattle.xs_check.specs.Links.{sheet_in};
+ghost use Rattle.xs_check.specs.Links.{parent_links, sheet_in};
 
 use std::alloc::{AllocError, Global};
-use xs_pixel::List;
-use xs_scene::{Exposure, Node, Peg, Ref, Sheet, Shown};
+use xs_base::List;
+use xs_scene::{Exposure, Inputs, Node, Peg, Ref, Sheet, Shown};
 
 /// A thing that names others of its kind.
 pub trait Naming {
@@ -26,6 +26,18 @@ pub fn links_of<T: Naming>(alloc: Global, things: &[T]) -> Result<List<List<u32>
         links.push(List::of(thing.named(alloc)?))?;
     }
     Ok(List::of(links))
+}
+
+/// What the pegs of each sheet name.
+pub fn parents_of(alloc: Global, sheets: &[Sheet]) -> Result<List<List<List<u32>>>, AllocError>
+    ensures { IfOk result (λ parents. parents ≡ map parent_links sheets.now) }
+{
+    let mut parents = Vec::with_capacity(alloc, sheets.len())?;
+    for sheet in sheets {
+        let links = links_of(alloc, sheet.pegs.items())?;
+        parents.push(links)?;
+    }
+    Ok(List::of(parents))
 }
 
 impl Naming for Peg {
@@ -59,20 +71,13 @@ impl Naming for Node {
 
     fn named(&self, alloc: Global) -> Result<Vec<u32>, AllocError> {
         let mut named = Vec::new(alloc);
-        match self {
-            Node::Pair {
-                op: _,
-                first,
-                second,
-            } => {
-                add_node(&mut named, *first)?;
-                add_node(&mut named, *second)?;
+        match self.inputs() {
+            Inputs::Zero => {}
+            Inputs::One(input) => add_node(&mut named, input)?,
+            Inputs::Two { first, second } => {
+                add_node(&mut named, first)?;
+                add_node(&mut named, second)?;
             }
-            Node::Card(_) => {}
-            Node::Shuffle { input, list: _ } => add_node(&mut named, *input)?,
-            Node::Blur { input, radius: _ } => add_node(&mut named, *input)?,
-            Node::Keep { input, styles: _ } => add_node(&mut named, *input)?,
-            Node::Delete { input, styles: _ } => add_node(&mut named, *input)?,
         }
         Ok(named)
     }

@@ -1,9 +1,9 @@
 //! The numbers of the drawings of a scene.
 ghost use Rattle.std.specs.Prelude.{◌≡◌, ◌<◌, ◌^◌, ◌++◌, ◌∷◌, [], length, replicate, IfOk, OnOk};
-ghost use Rattle.xs_check.specs.Readers.{IsNumbering, IsSpot};
+ghost use Rattle.xs_check.specs.Readers.{IsNumbering, IsOwner};
 
 use std::alloc::{AllocError, Global};
-use xs_pixel::Memory;
+use xs_base::Memory;
 use xs_scene::Level;
 
 /// The number of the first drawing of each level, and the level of each drawing.
@@ -15,10 +15,10 @@ pub(crate) struct Numbers {
 
 impl Numbers {
     /// The level of a drawing, and the drawing's place in the level's list.
-    pub(crate) fn spot<'s>(&self, levels: &'s [Level], d: u32) -> (&'s Level, usize)
+    pub(crate) fn owner<'s>(&self, levels: &'s [Level], d: u32) -> (&'s Level, usize)
         requires numbering { IsNumbering levels.now (length levels.now) self.now.firsts.items self.now.owners.items }
         requires below { d < length self.now.owners.items }
-        ensures { IsSpot levels.now d result.1 result.0.now }
+        ensures { IsOwner levels.now d result.1 result.0.now }
     {
         let d = d as usize;
         let owner = self.owners[d] as usize;

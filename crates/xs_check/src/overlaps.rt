@@ -1,18 +1,20 @@
 //! What stands where something earlier stands.
 ghost use Rattle.xs_check.specs.Finding.{Finds};
 ghost use Rattle.xs_check.specs.Passes.{EachApart, Overlaps};
-ghost use Rattle.xs_json.specs.Objects.{path_of};
+ghost use Rattle.xs_fault.specs.Paths.{path_of};
+ghost use Rattle.xs_index.specs.Index.{IsIndexOf};
 
-use crate::apart::{Apart, first_shared};
 use crate::files::files_apart;
 use crate::finding::{Requirement, each, tell_first};
+use crate::shared::{first_shared, index_apart};
 use std::alloc::Global;
-use xs_json::{Field, FieldFault, Path, Place, SceneCode};
+use xs_fault::{Field, FieldFault, Path, Place, SceneCode};
+use xs_index::{HasRow, Index};
 use xs_scene::{Colours, Column, Peg, Scene, Sheet};
 
 /// The first element of the list under a field of the object at `at` that does not stand apart from each
 /// earlier one.
-fn each_apart<T: Apart>(
+fn each_apart<T: HasRow>(
     alloc: Global,
     items: &[T],
     at: &Path,
@@ -91,8 +93,8 @@ impl Requirement<Sheet> for SheetOverlaps {
     }
 }
 
-/// The first thing that stands where an earlier one stands.
-pub fn overlaps(alloc: Global, scene: &Scene) -> Result<(), FieldFault>
+/// The first thing that stands where an earlier one stands, found list by list.
+fn first_overlap(alloc: Global, scene: &Scene) -> Result<(), FieldFault>
     ensures { Finds result (Overlaps scene.now) }
 {
     let top = Path::root(alloc);
@@ -111,4 +113,17 @@ pub fn overlaps(alloc: Global, scene: &Scene) -> Result<(), FieldFault>
         &top,
         Field::Sheets,
     )
+}
+
+/// The first thing that stands where an earlier one stands. The index of the scene tells whether cells or keys
+/// do: only then is the first of them looked for.
+pub fn overlaps(alloc: Global, scene: &Scene, index: &Index) -> Result<(), FieldFault>
+    requires { IsIndexOf scene.now index.now }
+    ensures { Finds result (Overlaps scene.now) }
+{
+    if index_apart(index) {
+        files_apart(alloc, scene.levels.items())
+    } else {
+        first_overlap(alloc, scene)
+    }
 }

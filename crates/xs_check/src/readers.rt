@@ -1,5 +1,6 @@
 //! What a checked scene says of one row, and its drawings by their numbers.
-ghost use Rattle.std.specs.Prelude.{◌≡◌, ◌<◌, ◌≤◌, ◌*◌, [], Some, length, slice_get, slice_index_or};
+ghost use Rattle.std.specs.Prelude.{◌≡◌, ◌<◌, [], Some, length, slice_get, slice_index_or};
+ghost use Rattle.xs_base.specs.declared.limits.TheConstants.{FARTHEST_PLACE};
 ghost use Rattle.std.specs.Option.{option_map};
 ghost use Rattle.xs_scene.specs.Ranges.{IsOffset};
 ghost use Rattle.xs_meaning.specs.Bounds.{IsWithin};
@@ -10,18 +11,40 @@ ghost use Rattle.xs_meaning.specs.Palettes.{keyed as keyed_style};
 ghost use Rattle.xs_meaning.specs.Palettes.{style_at as pixel_at};
 ghost use Rattle.xs_meaning.specs.Places.{peg_at, place_of};
 ghost use Rattle.xs_meaning.specs.Places.{own_offset as offset_at};
-ghost use Rattle.xs_meaning.specs.Places.{place_up as place_as_far};
-ghost use Rattle.xs_meaning.specs.Points.{point};
+ghost use Rattle.xs_pixel.specs.Points.{point};
 ghost use Rattle.xs_meaning.specs.Walk.{sheet_at, column_at};
 ghost use Rattle.xs_check.specs.Good.{IsGood, IsThere, HasPalette, files_of};
-ghost use Rattle.xs_check.specs.Readers.{IsSeen, IsSpot};
+ghost use Rattle.xs_check.specs.Readers.{IsSeen, IsOwner};
 
 use crate::good::GoodScene;
-use crate::limits::LONGEST_PEG_CHAIN;
 use xs_index::{key_in, offset_in, seen_in};
 use xs_meaning::rules::cells_are_chosen_by_row;
 use xs_pixel::{Pixel, Style};
 use xs_scene::{Kind, Level, Name, Seen, Shown, StyleKey};
+use xs_sheet::{Pegs, place_among};
+
+/// The pegs of a sheet of a checked scene.
+#[derive(Drop)]
+struct SheetPegs<'s> {
+    scene: &'s GoodScene,
+    sheet: u32,
+}
+
+impl Pegs for SheetPegs<'_> {
+    ghost use Rattle.xs_meaning.specs.Walk.{sheet_at};
+
+    ghost sheet = { λ p. sheet_at p.scene.now.sheets p.sheet };
+
+    fn own_offset(&self, peg: u32, row: u32) -> (i32, i32) {
+        let scene = self.scene;
+        scene.own_offset(self.sheet, peg, row)
+    }
+
+    fn parent(&self, peg: u32) -> Option<u32> {
+        let scene = self.scene;
+        scene.parent(self.sheet, peg)
+    }
+}
 
 impl GoodScene {
     /// What a column of a sheet shows at a row. A sheet or a column that the scene lacks shows nothing.
@@ -46,27 +69,10 @@ impl GoodScene {
     /// it is (0, 0).
     pub fn place(&self, sheet: u32, peg: Option<u32>, row: u32) -> (i32, i32)
         ensures value { point result.0 result.1 ≡ place_of (sheet_at self.now.sheets sheet) peg row }
-        ensures near { IsWithin 4194304 (point result.0 result.1) }
+        ensures near { IsWithin FARTHEST_PLACE (point result.0 result.1) }
     {
-        self.place_up(sheet, peg, row, LONGEST_PEG_CHAIN)
-    }
-
-    /// The place of a peg, as far as so many pegs up.
-    fn place_up(&self, sheet: u32, peg: Option<u32>, row: u32, most: u32) -> (i32, i32)
-        requires { most ≤ 64 }
-        ensures value { point result.0 result.1 ≡ place_as_far most (sheet_at self.now.sheets sheet) peg row }
-        ensures near { IsWithin (65536 * most) (point result.0 result.1) }
-    {
-        if most == 0 {
-            return (0, 0);
-        }
-        let Some(number) = peg else {
-            return (0, 0);
-        };
-        let (x, y) = self.own_offset(sheet, number, row);
-        let parent = self.parent(sheet, number);
-        let (across, up) = self.place_up(sheet, parent, row, most - 1);
-        (x + across, y + up)
+        let pegs = SheetPegs { scene: self, sheet };
+        place_among(&pegs, peg, row)
     }
 
     /// The pixel of a style of a palette at a row, where no filter drops it. Style 0 is clear, and so is
@@ -104,7 +110,7 @@ impl GoodScene {
         requires { d < length (files_of self.now.levels) }
         ensures { slice_get (files_of self.now.levels) d ≡ Some result.now }
     {
-        let (level, index) = self.spot(d);
+        let (level, index) = self.owner(d);
         &level.drawings.items()[index]
     }
 
@@ -114,18 +120,18 @@ impl GoodScene {
         ensures value { option_map (λ l. l.kind) (level_of self.now.levels d) ≡ Some result }
         ensures palette { HasPalette self.now result }
     {
-        let (level, _index) = self.spot(d);
+        let (level, _index) = self.owner(d);
         level.kind
     }
 
     /// The level of a drawing, and the drawing's place in the level's list.
-    fn spot(&self, d: u32) -> (&Level, usize)
+    fn owner(&self, d: u32) -> (&Level, usize)
         requires { d < length (files_of self.now.levels) }
-        ensures spot { IsSpot self.now.levels d result.1 result.0.now }
+        ensures owner { IsOwner self.now.levels d result.1 result.0.now }
         ensures good { IsGood self.now }
     {
         let scene = self.scene();
-        self.numbers.spot(scene.levels.items(), d)
+        self.numbers.owner(scene.levels.items(), d)
     }
 
     /// The parent of a peg.

@@ -2,15 +2,15 @@
 ghost use Rattle.std.specs.Prelude.{◌<◌, length};
 ghost use Rattle.xs_check.specs.Finding.{Finds, Unless, Then, EachAt, IfThere};
 ghost use Rattle.xs_check.specs.Good.{level_at};
-ghost use Rattle.xs_check.specs.Passes.{Names, RefReference, References};
-ghost use Rattle.xs_json.specs.Objects.{path_of};
+ghost use Rattle.xs_check.specs.Passes.{NamesOne, RefReference, References};
+ghost use Rattle.xs_fault.specs.Paths.{path_of};
 ghost use Rattle.xs_meaning.specs.Walk.{sheet_at};
 
 use crate::finding::{Requirement, each};
 use std::alloc::Global;
-use xs_json::{Field, FieldFault, Path, Place, SceneCode};
+use xs_fault::{Field, FieldFault, Path, Place, SceneCode};
 use xs_scene::{
-    Colours, Column, Exposure, Kind, Level, Node, Peg, Ref, Scene, Sheet, Shown, StyleKey,
+    Colours, Column, Exposure, Inputs, Kind, Level, Node, Peg, Ref, Scene, Sheet, Shown, StyleKey,
 };
 
 /// NoSuchReference at a field of the object at a place, unless its number names one of some things.
@@ -21,7 +21,7 @@ fn names<T>(
     things: &[T],
     number: u32,
 ) -> Result<(), FieldFault>
-    ensures { Finds result (Names (path_of field at.now) things.now number) }
+    ensures { Finds result (NamesOne (path_of field at.now) things.now number) }
 {
     if (number as usize) < things.len() {
         return Ok(());
@@ -38,7 +38,7 @@ fn may_name<T>(
     things: &[T],
     number: Option<u32>,
 ) -> Result<(), FieldFault>
-    ensures { Finds result (IfThere (Names (path_of field at.now) things.now) number) }
+    ensures { Finds result (IfThere (NamesOne (path_of field at.now) things.now) number) }
 {
     match number {
         Some(number) => names(alloc, at, field, things, number),
@@ -53,11 +53,11 @@ struct KeyReferences<'s> {
 }
 
 impl Requirement<StyleKey> for KeyReferences<'_> {
-    ghost use Rattle.xs_check.specs.Passes.{Names};
-    ghost use Rattle.xs_json.specs.Objects.{path_of};
-    ghost use Rattle.xs_json.specs.declared.field.Field.TheVariants as fields;
+    ghost use Rattle.xs_check.specs.Passes.{NamesOne};
+    ghost use Rattle.xs_fault.specs.Paths.{path_of};
+    ghost use Rattle.xs_fault.specs.declared.field.Field.TheVariants as fields;
 
-    ghost finds = { λ required at key. Names (path_of fields.Style at) required.palette.now.styles key.style };
+    ghost finds = { λ required at key. NamesOne (path_of fields.Style at) required.palette.now.styles key.style };
 
     fn look(&self, alloc: Global, item: &StyleKey, at: &Place) -> Result<(), FieldFault> {
         let palette = self.palette;
@@ -117,7 +117,7 @@ fn drawing(
     level: u32,
     index: u32,
 ) -> Result<(), FieldFault>
-    ensures { Finds result (Then (Names (path_of Field.Level at.now) levels.now level) (Names (path_of Field.Drawing at.now) (level_at levels.now level).drawings index)) }
+    ensures { Finds result (Then (NamesOne (path_of Field.Level at.now) levels.now level) (NamesOne (path_of Field.Drawing at.now) (level_at levels.now level).drawings index)) }
 {
     names(alloc, at, Field::Level, levels, level)?;
     let level = &levels[level as usize];
@@ -223,30 +223,16 @@ impl Requirement<Node> for NodeReferences<'_> {
 
     ghost finds = { λ required. Found required.sheet.now };
 
+    #[tactic(auto, unfolding(crate::specs::Passes::NodeReferences))]
     fn look(&self, alloc: Global, item: &Node, at: &Place) -> Result<(), FieldFault> {
         let path = at.path(alloc)?;
         let target = RefReferences { sheet: self.sheet };
-        match item {
-            Node::Pair {
-                op: _,
-                first,
-                second,
-            } => {
-                target.look(alloc, first, &Place::key(&path, Field::First))?;
-                target.look(alloc, second, &Place::key(&path, Field::Second))
-            }
-            Node::Card(_) => Ok(()),
-            Node::Shuffle { input, list: _ } => {
-                target.look(alloc, input, &Place::key(&path, Field::Input))
-            }
-            Node::Blur { input, radius: _ } => {
-                target.look(alloc, input, &Place::key(&path, Field::Input))
-            }
-            Node::Keep { input, styles: _ } => {
-                target.look(alloc, input, &Place::key(&path, Field::Input))
-            }
-            Node::Delete { input, styles: _ } => {
-                target.look(alloc, input, &Place::key(&path, Field::Input))
+        match item.inputs() {
+            Inputs::Zero => Ok(()),
+            Inputs::One(input) => target.look(alloc, &input, &Place::key(&path, Field::Input)),
+            Inputs::Two { first, second } => {
+                target.look(alloc, &first, &Place::key(&path, Field::First))?;
+                target.look(alloc, &second, &Place::key(&path, Field::Second))
             }
         }
     }
@@ -309,7 +295,7 @@ impl Requirement<Sheet> for SheetReferences<'_> {
 
 /// The peg of the camera, which is one of the first sheet.
 fn camera(alloc: Global, scene: &Scene, at: &Place) -> Result<(), FieldFault>
-    ensures { Finds result (IfThere (Names (path_of Field.Peg at.now) (sheet_at scene.now.sheets 0).pegs) scene.now.camera.peg) }
+    ensures { Finds result (IfThere (NamesOne (path_of Field.Peg at.now) (sheet_at scene.now.sheets 0).pegs) scene.now.camera.peg) }
 {
     let camera = &scene.camera;
     let peg = camera.peg;

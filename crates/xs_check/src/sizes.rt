@@ -1,14 +1,16 @@
 //! Lists that are too long.
 ghost use Rattle.xs_check.specs.Finding.{Finds, IfThere};
+ghost use Rattle.xs_base.specs.declared.limits.TheConstants.{MOST_TERMINALS};
 ghost use Rattle.xs_check.specs.Passes.{AtMost, Sizes};
 
 use crate::finding::{Requirement, each};
-use crate::limits::{
-    LONGEST_SHUFFLE, MOST_COLUMNS, MOST_NODES, MOST_STYLE_KEYS, MOST_STYLES, MOST_TERMINALS,
-};
 use std::alloc::Global;
-use xs_json::{Field, FieldFault, Path, Place, SceneCode};
-use xs_pixel::List;
+use xs_base::List;
+use xs_base::limits::{
+    LONGEST_SHUFFLE, MOST_COLUMNS, MOST_FILTER_STYLES, MOST_NODES, MOST_STYLE_KEYS, MOST_STYLES,
+    MOST_TERMINALS,
+};
+use xs_fault::{Field, FieldFault, Path, Place, SceneCode};
 use xs_scene::{Colours, Node, Ref, Scene, Sheet};
 
 /// TooMany at a place where the list there is longer than its limit.
@@ -66,7 +68,7 @@ impl Requirement<Node> for NodeSizes {
             Node::Keep { input: _, styles } => {
                 at_most(
                     alloc,
-                    MOST_STYLES,
+                    MOST_FILTER_STYLES,
                     &Place::key(&path, Field::Styles),
                     styles,
                 )
@@ -74,7 +76,7 @@ impl Requirement<Node> for NodeSizes {
             Node::Delete { input: _, styles } => {
                 at_most(
                     alloc,
-                    MOST_STYLES,
+                    MOST_FILTER_STYLES,
                     &Place::key(&path, Field::Styles),
                     styles,
                 )
@@ -86,7 +88,7 @@ impl Requirement<Node> for NodeSizes {
 
 /// The size of what a sheet lists to be rendered.
 fn out_size(alloc: Global, at: &Place, out: &Option<List<Ref>>) -> Result<(), FieldFault>
-    ensures { Finds result (IfThere (AtMost 1024 at.now) out.now) }
+    ensures { Finds result (IfThere (AtMost MOST_TERMINALS at.now) out.now) }
 {
     match out {
         Some(list) => at_most(alloc, MOST_TERMINALS, at, list),

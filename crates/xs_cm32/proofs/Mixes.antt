@@ -4,7 +4,7 @@ use Rattle.xs_pixel.specs.Channels.{Channels, IsPixel}
 use Rattle.xs_cm32.specs.Word.{mixed, tone_of, colour_of}
 
 -- a mix grows with both of its channels
-pub mixed_le_mixed : (tone ink more paint greater : ℕ) → ink ≤ more → paint ≤ greater → mixed tone ink paint ≤ mixed tone more greater
+mixed_le_mixed : (tone ink more paint greater : ℕ) → ink ≤ more → paint ≤ greater → mixed tone ink paint ≤ mixed tone more greater
 unfolding mixed
 mixed_le_mixed tone ink more paint greater inks paints =
     let first : ink * (255 - tone) ≤ more * (255 - tone) = mul-le-mul_right (255 - tone) inks in

@@ -1,2 +1,2 @@
 pub mod Word
-pub mod Rows
+pub mod WordRows

@@ -1,7 +1,8 @@
 ghost use Rattle.std.specs.Prelude.{◌≡◌, ℕ, ◌+◌, ◌*◌, ◌<◌, ◌≤◌, ◌^◌, [], ◌∷◌, length, slice_index_or};
+ghost use Rattle.xs_base.specs.declared.limits.TheConstants.{STYLE_NUMBERS};
 ghost use Rattle.std.specs.Simd.Lanes.{chunk};
 ghost use Rattle.xs_pixel.specs.Channels.{Channels, IsPixel};
-ghost use Rattle.xs_cm32.specs.Rows.{words};
+ghost use Rattle.xs_cm32.specs.WordRows.{words};
 ghost use Rattle.xs_cm32.specs.Word.{ink_of, paint_of, tone_of, word_of, mixed, colour_of};
 
 use std::marker::Model;
@@ -35,7 +36,7 @@ impl Cm32 {
     /// The number of the ink style, below 4096.
     pub fn ink(self) -> u32
         ensures number { result ≡ ink_of self }
-        ensures small { result < 4096 }
+        ensures small { result < STYLE_NUMBERS }
     {
         self.0 >> 20
     }
@@ -43,7 +44,7 @@ impl Cm32 {
     /// The number of the paint style, below 4096.
     pub fn paint(self) -> u32
         ensures number { result ≡ paint_of self }
-        ensures small { result < 4096 }
+        ensures small { result < STYLE_NUMBERS }
     {
         (self.0 >> 8) & 0xfff
     }
@@ -67,10 +68,10 @@ pub fn word_at(row: &[u8], at: usize) -> Cm32
 /// The layout of a word: its three parts determine it, and every three parts in range have a word.
 pub fn word_layout()
     ensures determined { (w : ℕ) → word_of (ink_of w) (paint_of w) (tone_of w) ≡ w }
-    ensures ink { (i p t : ℕ) → p < 4096 → t < 256 → ink_of (word_of i p t) ≡ i }
-    ensures paint { (i p t : ℕ) → p < 4096 → t < 256 → paint_of (word_of i p t) ≡ p }
+    ensures ink { (i p t : ℕ) → p < STYLE_NUMBERS → t < 256 → ink_of (word_of i p t) ≡ i }
+    ensures paint { (i p t : ℕ) → p < STYLE_NUMBERS → t < 256 → paint_of (word_of i p t) ≡ p }
     ensures tone { (i p t : ℕ) → t < 256 → tone_of (word_of i p t) ≡ t }
-    ensures fits { (i p t : ℕ) → i < 4096 → p < 4096 → t < 256 → word_of i p t < 2 ^ 32 }
+    ensures fits { (i p t : ℕ) → i < STYLE_NUMBERS → p < STYLE_NUMBERS → t < 256 → word_of i p t < 2 ^ 32 }
 {}
 
 /// The colour of each word with two pixels is a pixel.

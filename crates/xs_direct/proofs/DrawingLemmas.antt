@@ -7,9 +7,10 @@ use Rattle.xs_cm32.specs.Word.{colour_under}
 use Rattle.xs_scene.specs.declared.level.Kind.{Kind}
 use Rattle.xs_scene.specs.declared.level.Kind.TheVariants as kind
 use Rattle.xs_scene.specs.Records.{SceneRecord, LevelRecord, ColoursRecord}
-use Rattle.xs_meaning.specs.Drawings.{drawing_pixel, colouring_at, colours_of, palette_of, level_of, no_colours, pixels_in, words_in}
+use Rattle.xs_meaning.specs.Drawings.{drawing_pixel, colouring_at, colours_of, palette_of, level_of, no_colours}
+use Rattle.xs_pixel.specs.Picture.{pixels_in, words_in}
 use Rattle.xs_meaning.specs.Palettes.{Colouring, Dropped, style_at}
-use Rattle.xs_meaning.specs.Points.{Point}
+use Rattle.xs_pixel.specs.Points.{Point}
 use Rattle.xs_rawfile.specs.declared.drawing.RawKind.{RawKind}
 use Rattle.xs_rawfile.specs.declared.drawing.RawKind.TheVariants.{Colour, Cm32}
 use Rattle.xs_rawfile.specs.Raw.{Raw}

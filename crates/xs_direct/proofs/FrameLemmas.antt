@@ -3,23 +3,29 @@ use Rattle.std.proofs.Common.{ℕ, ◌≡◌, ◌+◌, ℤ, pos, ◌+ℤ◌, Lis
 use Rattle.std.specs.List.{range_with_len}
 use Rattle.std.proofs.lemmas.List.FromFn.{map-range_with_len_more}
 use Rattle.xs_pixel.specs.Channels.{Channels}
-use Rattle.xs_pixel.specs.Rows.{pixels}
+use Rattle.xs_pixel.specs.PixelRows.{pixels}
 use Rattle.xs_raster.specs.Bitmap.{bytes_of}
 use Rattle.xs_rawfile.specs.Frame.{frame_header_of}
 use Rattle.xs_scene.specs.Records.{SceneRecord}
-use Rattle.xs_meaning.specs.Drawings.{Pictures}
-use Rattle.xs_meaning.specs.Palettes.{Dropped}
-use Rattle.xs_meaning.specs.Points.{Point, point}
-use Rattle.xs_meaning.specs.Rows.{row_of, row_under, frame_pixel, camera_at}
+use Rattle.xs_pixel.specs.Picture.{Pictures}
+use Rattle.xs_base.specs.declared.limits.TheConstants.{DEEPEST_NEST}
+use Rattle.xs_meaning.specs.Palettes.{none_dropped}
+use Rattle.xs_pixel.specs.Points.{Point, point}
+use Rattle.xs_meaning.specs.RowValues.{row_of, frame_pixel, camera_at}
+use Rattle.xs_step.specs.declared.spot.At.TheVariants.{Row}
+use Rattle.xs_step.specs.Spots.{spot}
 use Rattle.xs_direct.specs.Frames.{frame_file, frame_line}
-use Rattle.xs_direct.specs.Values.{row_within}
+use Rattle.xs_direct.specs.Pictures.{pictures_in}
+use Rattle.xs_direct.specs.Values.{dropped_in, image_in}
+use Rattle.xs_direct.specs.declared.walk.Walk.{Walk}
 use Rattle.xs_direct.proofs.SumLemmas.{lines-push}
 
--- sheets are nested at most 16 deep
+-- a walk through all nested sheets, from the first sheet on and without filters
 pub row-whole :
-    (s : SceneRecord) (px : Pictures) (k row : ℕ) (f : Dropped) (p : Point) → row_within s px 16 k row f p ≡ row_under s px k row f p
-unfolding row_within
-row-whole s px k row f p = refl
+    {K : Type 0} (w : Walk K) (row : ℕ) (p : Point) → w.depth ≡ DEEPEST_NEST → w.spot ≡ spot 0 Row row → dropped_in w ≡ none_dropped
+    → image_in w p ≡ row_of w.scene.now (pictures_in w.drawings.now) 0 row p
+unfolding image_in
+row-whole w row p deep at unfiltered = rw (deep, at, unfiltered) refl
 
 bytes_of-append : (ps qs : List Channels) → bytes_of (ps ++ qs) ≡ bytes_of ps ++ bytes_of qs
 bytes_of-append [] qs = refl

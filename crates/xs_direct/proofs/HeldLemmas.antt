@@ -7,7 +7,7 @@ use Rattle.std.proofs.lemmas.Simd.{Each1-get_or}
 use mathlib.Core.Path.{fun_ext}
 use Rattle.xs_pixel.specs.Channels.{Channels, IsPixel}
 use Rattle.xs_pixel.specs.Picture.{Picture}
-use Rattle.xs_pixel.specs.Rows.{pixels}
+use Rattle.xs_pixel.specs.PixelRows.{pixels}
 use Rattle.xs_rect.specs.Area.{area}
 use Rattle.xs_raster.specs.Bitmap.{bitmap}
 use Rattle.xs_rawfile.specs.declared.drawing.RawKind.{RawKind}
@@ -18,11 +18,12 @@ use Rattle.xs_rawfile.specs.Held.{Held, IsHeld, IsIn, slot_in, drawing_in, pictu
 use Rattle.xs_scene.specs.InRange.{IsInRange}
 use Rattle.xs_scene.specs.Records.{SceneRecord}
 use Rattle.xs_meaning.specs.Agreement.{AgreeOn}
-use Rattle.xs_meaning.specs.Drawings.{Pictures, ArePixels, HoldsPixels}
+use Rattle.xs_pixel.specs.Picture.{Pictures, ArePixels, HoldsPixels}
 use Rattle.xs_meaning.specs.Expressions.{root_of, drawings_of}
-use Rattle.xs_meaning.specs.Points.{Point, point}
-use Rattle.xs_meaning.specs.Rows.{Image, frame_pixel}
-use Rattle.xs_schematic.specs.Once.{fresh, each_once}
+use Rattle.xs_pixel.specs.Points.{Point, point}
+use Rattle.xs_pixel.specs.Images.{Image}
+use Rattle.xs_meaning.specs.RowValues.{frame_pixel}
+use Rattle.xs_base.specs.Once.{fresh, each_once}
 use Rattle.xs_direct.specs.Frames.{frame_file}
 use Rattle.xs_direct.specs.Pictures.{pictures_in, AreHeld}
 
@@ -35,7 +36,7 @@ in_slot None x is = absurd (let e : None ≡ Some x = is in cc)
 in_slot (Some slot) x is = ap Some is
 
 -- what holds of each drawing that is held holds of a slot, if there is one
-each_slot :
+pub each_slot :
     (h : Held) (d : ℕ) (P : Raw → Option ℕ → Type 0) → ((g : Raw) (palette : Option ℕ) → IsIn h d g palette → P g palette)
     → IfSome (slot_in h d) (λ slot. P slot.0 slot.1)
 each_slot h d P each = by_cases (slot_in h d) refl
@@ -44,7 +45,7 @@ each_slot h d P each = by_cases (slot_in h d) refl
     by_cases None is = tt
     by_cases (Some slot) is = each slot.0 slot.1 (in_slot (slice_get h.slots d) slot is)
 
-mapped : {A B : Type 0} (f : A → B) (o : Option A) (P : B → Type 0) → IfSome o (λ a. P (f a)) → IfSome (option_map f o) P
+pub mapped : {A B : Type 0} (f : A → B) (o : Option A) (P : B → Type 0) → IfSome o (λ a. P (f a)) → IfSome (option_map f o) P
 mapped f None P has = tt
 mapped f (Some a) P has = has
 

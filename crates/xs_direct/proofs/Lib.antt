@@ -1,8 +1,9 @@
-pub mod DrawingLemmas
-pub mod FilterLemmas
-pub mod FrameLemmas
-pub mod HeldLemmas
-pub mod Rooms
-pub mod Stacks
-pub mod SumLemmas
-pub mod ValueLemmas
+mod ColouredLemmas
+mod DrawingLemmas
+mod FilterLemmas
+mod FrameLemmas
+mod HeldLemmas
+mod Rooms
+mod StepLemmas
+mod SumLemmas
+mod ValueLemmas

@@ -2,7 +2,7 @@
 use Rattle.std.proofs.Common.{ℕ, ◌≡◌, ◌+◌, ◌≤◌, subst, sym, arith}
 use Rattle.std.proofs.lemmas.Int.{ints}
 use Rattle.xs_meaning.specs.Bounds.{IsWithin}
-use Rattle.xs_meaning.specs.Points.{Point, plus, minus}
+use Rattle.xs_pixel.specs.Points.{Point, plus, minus}
 use Rattle.xs_direct.specs.Room.{CanMove}
 
 pub CanMove-less : (room rest : ℕ) (p : Point) → rest ≤ room → CanMove room p → CanMove rest p

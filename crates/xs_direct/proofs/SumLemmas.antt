@@ -9,8 +9,8 @@ use Rattle.std.proofs.Math.Nat.{mul-le-mul_left}
 use Rattle.std.proofs.lemmas.Simd.{map-map}
 use mathlib.Core.Path.{ap₂, fun_ext}
 use Rattle.xs_pixel.specs.Channels.{Channels, clear}
-use Rattle.xs_meaning.specs.Points.{Point, point, plus, span, square}
-use Rattle.xs_meaning.specs.Rows.{Image, blurred}
+use Rattle.xs_pixel.specs.Points.{Point, point, plus, span, square}
+use Rattle.xs_pixel.specs.Images.{Image, blurred}
 use Rattle.xs_direct.specs.Sums.{AreSums, added, divided, sums_at, line_of, lines_of}
 
 pub AreSums-more : (most more : ℕ) (c : Channels) → most ≤ more → AreSums most c → AreSums more c

@@ -5,11 +5,11 @@ use Rattle.xs_rect.specs.Area.{area}
 use Rattle.xs_raster.specs.Bitmap.{bitmap}
 use Rattle.xs_rawfile.specs.Frame.{frame_file_of}
 use Rattle.xs_scene.specs.Records.{SceneRecord}
-use Rattle.xs_meaning.specs.Drawings.{Pictures}
-use Rattle.xs_meaning.specs.Points.{point}
-use Rattle.xs_meaning.specs.Rows.{frame_of, frame_pixel}
+use Rattle.xs_pixel.specs.Picture.{Pictures}
+use Rattle.xs_pixel.specs.Points.{point}
+use Rattle.xs_meaning.specs.RowValues.{frame_of, frame_pixel}
 
--- the raw frame file of a row: XFR1, the sides, and four bytes for each pixel from the lowest row up
+-- the frame file of a row
 unfoldable pub frame_file : SceneRecord → Pictures → ℕ → List ℕ
 frame_file s pictures row =
     frame_file_of (bitmap (area (pos 0) (pos 0) s.camera.w s.camera.h) (frame_of s pictures row))

@@ -2,9 +2,9 @@ use Rattle.std.specs.Prelude.{ℕ, List, map, All, Option, Some, None, IsSome, o
 use Rattle.xs_pixel.specs.Channels.{Channels, clear}
 use Rattle.xs_pixel.specs.Picture.{at_point, pixel_at}
 use Rattle.xs_cm32.specs.Word.{colour_under}
-use Rattle.xs_meaning.specs.Drawings.{Pictures}
+use Rattle.xs_pixel.specs.Picture.{Pictures}
 use Rattle.xs_meaning.specs.Palettes.{Colouring}
-use Rattle.xs_meaning.specs.Points.{Point}
+use Rattle.xs_pixel.specs.Points.{Point}
 use Rattle.xs_rawfile.specs.Held.{Held, slot_in, picture_of, plain_picture, words_of}
 use Rattle.xs_rawfile.specs.Raw.{Raw}
 

@@ -1,5 +1,6 @@
 use Rattle.std.specs.Prelude.{ℕ, ◌+◌, ◌*◌, pos, neg_ℤ, ◌+ℤ◌, ◌-ℤ◌, ◌≤ℤ◌}
-use Rattle.xs_meaning.specs.Points.{Point}
+use Rattle.xs_base.specs.declared.limits.TheConstants.{LONGEST_CAMERA_SIDE, FARTHEST_PLACE, GREATEST_RADIUS}
+use Rattle.xs_pixel.specs.Points.{Point}
 
 -- how far from the origin a point may be, along each axis: 2^30
 abbrev pub edge : ℕ
@@ -14,15 +15,15 @@ pub record CanMove (room : ℕ) (p : Point) : Type 0 where
 
 -- how long the sides of a frame are at most
 abbrev pub frame_reach : ℕ
-frame_reach = 4096
+frame_reach = LONGEST_CAMERA_SIDE
 
--- how far the place of a peg moves a point at most, each way: 64 pegs of 65,536
+-- how far the place of a peg moves a point at most, each way
 abbrev pub peg_reach : ℕ
-peg_reach = 4194304
+peg_reach = FARTHEST_PLACE
 
 -- and one blur: its greatest radius
 abbrev pub blur_reach : ℕ
-blur_reach = 16
+blur_reach = GREATEST_RADIUS
 
 -- and all of one sheet: the peg of a column, and the blurs on the way to it, of which there are at most 257
 abbrev pub sheet_reach : ℕ

@@ -1,8 +1,8 @@
 use Rattle.std.specs.Prelude.{ℕ, ◌+◌, ◌*◌, ◌/◌, ◌≤◌, pos, ◌-ℤ◌, List, map, flat_map, sum_by}
 use Rattle.std.specs.List.{range_with_len}
 use Rattle.xs_pixel.specs.Channels.{Channels}
-use Rattle.xs_meaning.specs.Points.{Point, point, plus}
-use Rattle.xs_meaning.specs.Rows.{Image}
+use Rattle.xs_pixel.specs.Points.{Point, point, plus}
+use Rattle.xs_pixel.specs.Images.{Image}
 
 -- the sum of each channel of some pixels: no colour exceeds the matte, and the matte is at most `most`
 pub record AreSums (most : ℕ) (c : Channels) : Type 0 where

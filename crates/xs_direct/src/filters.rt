@@ -1,8 +1,7 @@
 ghost use Rattle.std.specs.Prelude.{◌≡◌};
-ghost use Rattle.xs_meaning.specs.Palettes.{is_listed};
+ghost use Rattle.xs_base.specs.Listed.{is_listed};
 
-/// A filter names the styles below this one.
-const NAMEABLE: u32 = 4096;
+use xs_base::limits::STYLE_NUMBERS;
 
 /// The palette filters on the way from a row to what it shows, the nearest one first.
 #[derive(Clone, Copy)]
@@ -26,7 +25,7 @@ impl Filters<'_> {
         match self {
             Filters::Open => false,
             Filters::Keep(styles, outer) => {
-                outer.drops(style) || style < NAMEABLE && !lists(styles, style)
+                outer.drops(style) || style < STYLE_NUMBERS && !lists(styles, style)
             }
             Filters::Delete(styles, outer) => outer.drops(style) || lists(styles, style),
         }

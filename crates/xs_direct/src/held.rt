@@ -3,11 +3,12 @@ ghost use Rattle.xs_meaning.specs.Expressions.{drawings_of, root_of};
 ghost use Rattle.xs_direct.specs.Pictures.{AreHeld};
 
 use std::alloc::Global;
+use xs_base::Memory;
+use xs_base::laws::each_number_is_taken_once;
 use xs_check::GoodScene;
 use xs_needs::row_drawings;
-use xs_pixel::{Film, Memory};
+use xs_pixel::Film;
 use xs_rawfile::Drawings;
-use xs_schematic::laws::each_number_is_taken_once;
 
 /// Whether all drawings of a row's expression are held, so that its frame is that of the pictures.
 pub fn are_drawings_held<K: Film>(

@@ -8,9 +8,9 @@ mod frame;
 mod held;
 pub mod laws;
 mod position;
-mod shuffle;
 mod sums;
 mod values;
+mod walk;
 
 pub use frame::{frame_direct, held_drawings_make_the_frame, pixel_at};
 pub use held::are_drawings_held;

@@ -1,4 +1,5 @@
 use std::marker::Model;
+use xs_step::Offset;
 
 /// A point of the picture.
 #[derive(Clone, Copy, Debug)]
@@ -8,7 +9,7 @@ pub(crate) struct Position {
 }
 
 impl Model for Position {
-    ghost use Rattle.xs_meaning.specs.Points.{Point, point};
+    ghost use Rattle.xs_pixel.specs.Points.{Point, point};
 
     ghost Value = { Point };
 
@@ -20,18 +21,18 @@ impl Model for Position {
 impl Position {
     ghost use Rattle.std.specs.Prelude.{◌≡◌, ◌*◌, ◌≤◌, pos, ◌-ℤ◌};
     ghost use Rattle.xs_meaning.specs.Bounds.{IsWithin};
-    ghost use Rattle.xs_meaning.specs.Points.{Point, point, plus, minus};
+    ghost use Rattle.xs_pixel.specs.Points.{Point, point, plus, minus};
     ghost use Rattle.xs_direct.specs.Room.{CanMove, blur_reach, peg_reach};
 
     /// The point less an offset.
-    pub(crate) fn less(self, by: (i32, i32)) -> Position
+    pub(crate) fn less(self, by: Offset) -> Position
         requires room { CanMove peg_reach self }
-        requires near { IsWithin peg_reach (point by.0 by.1) }
-        ensures { result ≡ minus self (point by.0 by.1) }
+        requires near { IsWithin peg_reach by }
+        ensures { result ≡ minus self by }
     {
         Position {
-            x: self.x - by.0,
-            y: self.y - by.1,
+            x: self.x - by.x,
+            y: self.y - by.y,
         }
     }
 

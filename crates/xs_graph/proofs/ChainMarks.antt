@@ -6,7 +6,7 @@ use Rattle.std.proofs.lemmas.Bool.{false≢true, cases_lt, cases_Bool}
 use Rattle.std.proofs.lemmas.Bool.Decides.{nat_tests}
 use Rattle.std.proofs.lemmas.List.Folds.{Any-from_list_any, list_any-from_Any}
 use Rattle.std.specs.List.{list_any}
-use Rattle.xs_graph.specs.First.{IsFirstWithout}
+use Rattle.xs_base.specs.First.{IsFirstWithout}
 use Rattle.xs_graph.specs.Paths.{Links, successors, Leads, HasChain, has_chain, TellChains}
 
 -- ---- chains and their test
@@ -30,10 +30,10 @@ chain_told links zero a b path = refl
 chain_told links (suc steps) a b (c, (k, below, is), path) =
     list_any-from_Any (has_chain links steps) (successors links a) (k, c, below, is, chain_told links steps c b path)
 
-pub no_chain : (links : Links) (steps a : ℕ) → has_chain links steps a ≡ false → HasChain links steps a → ⊥
+no_chain : (links : Links) (steps a : ℕ) → has_chain links steps a ≡ false → HasChain links steps a → ⊥
 no_chain links steps a told chain = false≢true (sym told ∙ chain_told links steps a chain.end chain.path)
 
-pub chain_missing : (links : Links) (steps a : ℕ) → (HasChain links steps a → ⊥) → has_chain links steps a ≡ false
+chain_missing : (links : Links) (steps a : ℕ) → (HasChain links steps a → ⊥) → has_chain links steps a ≡ false
 chain_missing links steps a none =
     elim (cases_Bool (has_chain links steps a)) [ inl begins ↦ absurd (none (chain_found links steps a begins)) | inr missing ↦ missing ]
 
@@ -92,7 +92,8 @@ pub first_chain : (links : Links) (steps : ℕ) (marks : List Bool) (first : Opt
     → IsFirstWithout (λ a. HasChain links steps a → ⊥) (length links) first
 first_chain links steps marks first some tells h =
     let inside : (steps == 0) ≡ false = grind (arith, nat_tests) in
-    let told : (a : ℕ) → get_or marks a false ≡ has_chain links steps a = λ a. subst (λ (b : Bool). get_or marks a b ≡ has_chain links steps a) inside (tells.told a) in
+    let told : (a : ℕ) → get_or marks a false ≡ has_chain links steps a = λ a. subst
+    (λ (b : Bool). get_or marks a b ≡ has_chain links steps a) inside (tells.told a) in
     first_by links steps marks first told tells.length h
 
 -- ---- no chain left

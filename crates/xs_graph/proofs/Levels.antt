@@ -3,7 +3,7 @@ use Rattle.std.proofs.lemmas.Bool.{cases_lt}
 use Rattle.std.proofs.lemmas.List.{get_or_past}
 use Rattle.std.proofs.lemmas.List.Elements.{All-contains}
 use Rattle.xs_graph.specs.Labels.{NeverRise, Falls}
-use Rattle.xs_graph.specs.First.{IsFirstWithout}
+use Rattle.xs_base.specs.First.{IsFirstWithout}
 use Rattle.xs_graph.specs.Paths.{Links, successors, Leads, LiesOnCycle}
 
 module _ (links : Links) (labels : List ℕ) (never : NeverRise links labels) where

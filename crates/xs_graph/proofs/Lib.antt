@@ -1,6 +1,6 @@
-pub mod ChainMarks
-pub mod Searches
-pub mod Levels
-pub mod PathLengths
-pub mod Settled
-pub mod Cycles
+mod ChainMarks
+mod Searches
+mod Levels
+mod PathLengths
+mod Settled
+mod Cycles

@@ -8,7 +8,8 @@ use Rattle.std.proofs.lemmas.Map.Made.{IsDistinct-from_AllPairs}
 use Rattle.std.proofs.lemmas.Map.Steps.{length-le_from_distinct_below}
 use Rattle.xs_graph.specs.Paths.{Links, successors, Leads, LiesOnCycle, HasChain}
 
-module _ (links : Links) (inside : (a c : ℕ) → Contains (successors links a) c → c < length links) (acyclic : (a : ℕ) → a < length links → LiesOnCycle links a → ⊥) where
+module _ (links : Links) (inside : (a c : ℕ) → Contains (successors links a) c → c < length links)
+    (acyclic : (a : ℕ) → a < length links → LiesOnCycle links a → ⊥) where
   unfoldable points : (steps a b : ℕ) → Leads links steps a b → List ℕ
   unfolding Leads
   points zero a b path = a ∷ []

@@ -27,7 +27,7 @@ settled_either P Q (inl p) q = inl (inl p)
 settled_either P Q (inr n) (inl q) = inl (inr q)
 settled_either P Q (inr n) (inr m) = inr (neither P Q n m)
 
-pub settled_test : (P : Type 0) (b : Bool) → Decides b P → Settled P
+settled_test : (P : Type 0) (b : Bool) → Decides b P → Settled P
 settled_test P true decides = inl (decides.0 refl)
 settled_test P false decides = inr (not_from_Decides false decides refl)
 

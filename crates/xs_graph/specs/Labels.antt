@@ -1,9 +1,9 @@
 -- Labels of nodes.
 use Rattle.std.specs.Prelude.{◌<◌, ◌≤◌, ℕ, List, Option, IfSome, All, length, slice_index}
-use Rattle.xs_graph.specs.First.{IsFirstWithout}
+use Rattle.xs_base.specs.First.{IsFirstWithout}
 use Rattle.xs_graph.specs.Paths.{Links, successors, LiesOnCycle}
-use Rattle.xs_graph.specs.declared.labels.Told.{Told}
-use Rattle.xs_graph.specs.declared.labels.Told.TheVariants.{First, Nothing}
+use Rattle.xs_graph.specs.declared.labels.ByLabels.{ByLabels}
+use Rattle.xs_graph.specs.declared.labels.ByLabels.TheVariants.{First, Nothing}
 
 -- no node links to one with a greater label
 abbrev pub NeverRise : Links → List ℕ → Type 0
@@ -22,6 +22,6 @@ AreConclusive links labels =
     × ((first : Option ℕ) → IsFirstWithout (Falls links labels) (length links) first → IfSome first (LiesOnCycle links))
 
 -- the first node on a cycle; nothing only where labels do not show it
-abbrev pub IsToldBy : Links → List ℕ → Told → Type 0
+abbrev pub IsToldBy : Links → List ℕ → ByLabels → Type 0
 IsToldBy links labels (First first) = IsFirstWithout (λ a. LiesOnCycle links a → ⊥) (length links) first
 IsToldBy links labels Nothing = AreConclusive links labels → ⊥

@@ -1,4 +1,3 @@
-pub mod First
 pub mod Settled
 pub mod Paths
 pub mod Search

@@ -3,11 +3,11 @@
 //! chain is left.
 ghost use Rattle.std.specs.Prelude.{◌≡◌, ◌<◌, ◌↔◌, IfOk, IsTrue, All, ℕ, false, length, map, slice_index_or};
 ghost use Rattle.std.specs.List.{list_any};
-ghost use Rattle.xs_graph.specs.First.{IsFirstWithout};
+ghost use Rattle.xs_base.specs.First.{IsFirstWithout};
 ghost use Rattle.xs_graph.specs.Paths.{TellChains, HasChain};
 
 use std::alloc::{AllocError, Global};
-use xs_pixel::List;
+use xs_base::List;
 
 /// The mark of a number, or the given one past the marks.
 fn mark_of(marks: &[bool], number: u32, outside: bool) -> bool

@@ -4,13 +4,13 @@
 ghost use Rattle.std.specs.Prelude.{◌≡◌, ◌<◌, ◌≤◌, ◌↔◌, ℕ, IfOk, IfSome, IsTrue, All, length, slice_index};
 ghost use Rattle.std.specs.Prelude.{List as Items};
 ghost use Rattle.xs_graph.specs.Labels.{NeverRise, Falls, IsToldBy};
-ghost use Rattle.xs_graph.specs.First.{IsFirstWithout};
+ghost use Rattle.xs_base.specs.First.{IsFirstWithout};
 ghost use Rattle.xs_graph.specs.Paths.{LiesOnCycle};
 
 use crate::search::{first_by_search, leads_back};
 use crate::walk::labels_of;
 use std::alloc::{AllocError, Global};
-use xs_pixel::List;
+use xs_base::List;
 
 /// The label of a node; 0 past the labels.
 fn label_of(labels: &[u32], node: usize) -> u32
@@ -84,7 +84,7 @@ fn is_on_cycle(
 
 /// What labels tell of the first node on a cycle.
 #[derive(Clone, Copy, Debug, PartialEq, Eq)]
-pub enum Told {
+pub enum ByLabels {
     /// The first node on a cycle, or that there is none.
     First(Option<usize>),
     /// Labels do not show which node is the first on a cycle.
@@ -92,24 +92,24 @@ pub enum Told {
 }
 
 /// What some labels tell of the first node on a cycle.
-fn told_by(alloc: Global, links: &List<List<u32>>, labels: &[u32]) -> Result<Told, AllocError>
+fn told_by(alloc: Global, links: &List<List<u32>>, labels: &[u32]) -> Result<ByLabels, AllocError>
     ensures { IfOk result (IsToldBy links.now labels.now) }
 {
     let nodes = links.items();
     if !never_rise(nodes, labels) {
-        return Ok(Told::Nothing);
+        return Ok(ByLabels::Nothing);
     }
     let first = first_level(nodes, labels);
     if is_on_cycle(alloc, links, first)? {
-        Ok(Told::First(first))
+        Ok(ByLabels::First(first))
     } else {
-        Ok(Told::Nothing)
+        Ok(ByLabels::Nothing)
     }
 }
 
 /// The quick way: what the labels of one walk over all nodes tell of the first node on a cycle. Where they tell
 /// something, it is what `first_on_cycle` answers.
-pub fn first_by_labels(alloc: Global, links: &List<List<u32>>) -> Result<Told, AllocError>
+pub fn first_by_labels(alloc: Global, links: &List<List<u32>>) -> Result<ByLabels, AllocError>
     ensures { IfOk result (λ told. (labels : Items ℕ) × IsToldBy links.now labels told) }
 {
     let labels = labels_of(alloc, links)?;
@@ -121,7 +121,7 @@ pub fn first_on_cycle(alloc: Global, links: &List<List<u32>>) -> Result<Option<u
     ensures { IfOk result (IsFirstWithout (λ a. LiesOnCycle links.now a → ⊥) (length links.now)) }
 {
     match first_by_labels(alloc, links)? {
-        Told::First(first) => Ok(first),
-        Told::Nothing => first_by_search(alloc, links),
+        ByLabels::First(first) => Ok(first),
+        ByLabels::Nothing => first_by_search(alloc, links),
     }
 }

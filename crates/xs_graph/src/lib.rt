@@ -9,5 +9,5 @@ mod search;
 mod walk;
 
 pub use chains::first_long;
-pub use labels::{Told, first_by_labels, first_on_cycle};
+pub use labels::{ByLabels, first_by_labels, first_on_cycle};
 pub use search::first_by_search;

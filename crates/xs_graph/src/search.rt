@@ -2,12 +2,12 @@
 //! then those that each node met links to, until it has looked at each node met.
 ghost use Rattle.std.specs.Prelude.{◌≡◌, ◌<◌, ◌↔◌, IfOk, OnOk, IsTrue, length};
 ghost use Rattle.xs_graph.specs.Search.{met_after, seen_after, Grows};
-ghost use Rattle.xs_graph.specs.First.{IsFirstWithout};
+ghost use Rattle.xs_base.specs.First.{IsFirstWithout};
 ghost use Rattle.xs_graph.specs.Paths.{successors, LiesOnCycle};
 
 use crate::chains::marks_of;
 use std::alloc::{AllocError, Global};
-use xs_pixel::List;
+use xs_base::List;
 
 /// The nodes that a node links to; none where there is no such node.
 fn successors_of(links: &List<List<u32>>, number: u32) -> &[u32]

@@ -2,7 +2,7 @@
 //! no node links to one with a greater label, and two have the same label where paths lead from each to the other.
 //! Of the labels nothing is proved: what is told by them is tested first.
 use std::alloc::{AllocError, Global};
-use xs_pixel::List;
+use xs_base::List;
 
 /// The number at a place; 0 past the end.
 fn read(numbers: &[u32], place: u32) -> u32 {

@@ -11,7 +11,7 @@ use Rattle.xs_scene.specs.Records.{ColumnRecord, ColoursRecord, ExposureRecord, 
 use Rattle.xs_meaning.specs.Cells.{cell_at, covers, shown_after}
 use Rattle.xs_meaning.specs.Chosen.{IsOnlyAt, IsKeyInForce, IsKeyAfter, HasDistinctRows, IsStyleKeyInForce}
 use Rattle.xs_meaning.specs.Places.{own_offset, offset_by, offset_from, key_in_force, key_after}
-use Rattle.xs_meaning.specs.Points.{Point, point}
+use Rattle.xs_pixel.specs.Points.{Point, point}
 use Rattle.xs_index.specs.Apart.{AreApart, DifferInRow, DifferInRowOrStyle}
 use Rattle.xs_index.specs.Order.{IsLast, IsNext}
 
@@ -42,7 +42,8 @@ pairs_same R xs a b pairs in_a in_b forth back =
 covered : (row : ℕ) (e : ExposureRecord) → covers row e ≡ true → (e.from ≤ row) × (row ≤ e.to)
 covered row e is = (grind (arith, nat_tests), grind (arith, nat_tests))
 
-module _ (column : ColumnRecord) (cells : List ExposureRecord) (row : ℕ) (moved : IsPermutation column.cells cells) (apart : AllPairs AreApart column.cells) where
+module _ (column : ColumnRecord) (cells : List ExposureRecord) (row : ℕ) (moved : IsPermutation column.cells cells)
+    (apart : AllPairs AreApart column.cells) where
   back : IsPermutation cells column.cells
   back = IsPermutation-sym column.cells cells moved
 
@@ -174,12 +175,14 @@ module _ (list keys : List PegKeyRecord) (row : ℕ) (moved : IsPermutation list
 
 -- ---- keys of a palette
 
-module _ (c : ColoursRecord) (keys : List StyleKeyRecord) (style row : ℕ) (moved : IsPermutation c.keys keys) (differ : AllPairs DifferInRowOrStyle c.keys) where
+module _ (c : ColoursRecord) (keys : List StyleKeyRecord) (style row : ℕ) (moved : IsPermutation c.keys keys)
+    (differ : AllPairs DifferInRowOrStyle c.keys) where
   style_back : IsPermutation keys c.keys
   style_back = IsPermutation-sym c.keys keys moved
 
   pub key_chosen : (found key : Option StyleKeyRecord)
-      → MatchOption found (All (λ (k : StyleKeyRecord). k.style ≡ style → row < k.row) keys) (IsLast (λ (k : StyleKeyRecord). k.style) (λ k. k.row) style row keys)
+      → MatchOption found (All (λ (k : StyleKeyRecord). k.style ≡ style → row < k.row) keys)
+      (IsLast (λ (k : StyleKeyRecord). k.style) (λ k. k.row) style row keys)
       → MatchOption key (All (λ k. k.style ≡ style → row < k.row) c.keys) (IsStyleKeyInForce c.keys row style) → found ≡ key
   key_chosen None None all none = refl
   key_chosen None (Some b) all is =

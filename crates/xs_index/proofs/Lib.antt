@@ -1,2 +1,2 @@
-pub mod Orders
-pub mod Chosen
+mod Orders
+mod Chosen

@@ -69,7 +69,8 @@ module _ {K : Type 0} (group row : K → ℕ) where
         elim (cases_lt k n) [
           | inl early ↦
               let at : get_or xs (n - 1) d ≡ a = get_or_default xs (n - 1) d a (omega arith) ∙ sym is in
-              let up = begun_group (group (get_or xs k d)) (row (get_or xs k d)) (group (get_or xs (n - 1) d)) (row (get_or xs (n - 1) d)) (order k (n - 1) d (omega arith) (omega arith)) in
+              let up = begun_group (group (get_or xs k d)) (row (get_or xs k d)) (group (get_or xs (n - 1) d)) (row (get_or xs (n - 1) d))
+              (order k (n - 1) d (omega arith) (omega arith)) in
               let top = begun_group (group (get_or xs (n - 1) d)) (row (get_or xs (n - 1) d)) g r (before (n - 1) d (omega arith)) in
               absurd (other (ap group (sym at) ∙ (let e : group (get_or xs (n - 1) d) ≡ g = omega arith in e)))
           | inr late ↦ not_begun_row (group (get_or xs k d)) (row (get_or xs k d)) g r (after k d late below) same

@@ -1,3 +1,4 @@
 pub mod Order
 pub mod Apart
+pub mod ApartTold
 pub mod Index

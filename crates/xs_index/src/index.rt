@@ -1,14 +1,14 @@
 //! The index of a scene: its lists in the order of their rows.
 ghost use Rattle.std.specs.Prelude.{◌≡◌, ℕ, [], IfOk, slice_index_or};
-ghost use Rattle.xs_meaning.specs.Drawings.{no_colours};
-ghost use Rattle.xs_meaning.specs.Places.{no_peg};
-ghost use Rattle.xs_meaning.specs.Walk.{no_column, no_sheet};
-ghost use Rattle.xs_index.specs.Index.{IsSheetIndex, IsIndexOf, AreCells, AreKeys, AreStyleKeys, cells_in, keys_in, style_keys_in, no_lists};
+ghost use Rattle.xs_meaning.specs.Walk.{no_sheet};
+ghost use Rattle.xs_index.specs.Index.{IsSheetIndex, IsIndexOf, cells_in, keys_in, style_keys_in, no_lists};
+ghost use Rattle.xs_index.specs.Order.{IsOrderOf};
 
+use crate::has_row::HasItems;
 use crate::order::in_order;
 use std::alloc::{AllocError, Global};
-use xs_pixel::{List, Memory};
-use xs_scene::{Colours, Column, Exposure, Peg, PegKey, Scene, Sheet, StyleKey};
+use xs_base::{List, Memory};
+use xs_scene::{Exposure, PegKey, Scene, Sheet, StyleKey};
 
 /// The cells of each column of a sheet, and the keys of each peg.
 #[derive(Debug, Drop)]
@@ -28,38 +28,15 @@ pub struct Index {
     pub palettes: List<List<StyleKey>>,
 }
 
-/// The cells of each column in order.
-fn columns_of(alloc: Global, columns: &[Column]) -> Result<List<List<Exposure>>, Memory>
-    ensures { IfOk result (λ lists. (c : ℕ) → AreCells (slice_index_or columns.now c no_column) (slice_index_or lists c [])) }
+/// The items of each of some things in order. A thing that is not there has none.
+fn lists_of<H: HasItems>(alloc: Global, things: &[H]) -> Result<List<List<H::Item>>, Memory>
+    ensures { IfOk result (λ lists. (none : H) → H.items_of none ≡ [] → (i : ℕ)
+        → IsOrderOf H.Item.group_of H.Item.row_of (H.items_of (slice_index_or things.now i none)) (slice_index_or lists i [])) }
 {
     let mut lists = Vec::new(alloc);
-    for column in columns {
-        let cells = in_order(alloc, column.cells.items())?;
-        lists.push(cells).map_err(AllocError::from)?;
-    }
-    Ok(List::of(lists))
-}
-
-/// The keys of each peg in order.
-fn pegs_of(alloc: Global, pegs: &[Peg]) -> Result<List<List<PegKey>>, Memory>
-    ensures { IfOk result (λ lists. (i : ℕ) → AreKeys (slice_index_or pegs.now i no_peg) (slice_index_or lists i [])) }
-{
-    let mut lists = Vec::new(alloc);
-    for peg in pegs {
-        let keys = in_order(alloc, peg.keys.items())?;
-        lists.push(keys).map_err(AllocError::from)?;
-    }
-    Ok(List::of(lists))
-}
-
-/// The keys of each palette in order.
-fn palettes_of(alloc: Global, palettes: &[Colours]) -> Result<List<List<StyleKey>>, Memory>
-    ensures { IfOk result (λ lists. (p : ℕ) → AreStyleKeys (slice_index_or palettes.now p no_colours) (slice_index_or lists p [])) }
-{
-    let mut lists = Vec::new(alloc);
-    for palette in palettes {
-        let keys = in_order(alloc, palette.keys.items())?;
-        lists.push(keys).map_err(AllocError::from)?;
+    for thing in things {
+        let list = in_order(alloc, thing.items())?;
+        lists.push(list).map_err(AllocError::from)?;
     }
     Ok(List::of(lists))
 }
@@ -69,8 +46,8 @@ fn sheet_of(alloc: Global, sheet: &Sheet) -> Result<SheetIndex, Memory>
     ensures { IfOk result (IsSheetIndex sheet.now) }
 {
     Ok(SheetIndex {
-        columns: columns_of(alloc, sheet.columns.items())?,
-        pegs: pegs_of(alloc, sheet.pegs.items())?,
+        columns: lists_of(alloc, sheet.columns.items())?,
+        pegs: lists_of(alloc, sheet.pegs.items())?,
     })
 }
 
@@ -103,7 +80,7 @@ impl Index {
     {
         Ok(Index {
             sheets: sheets_of(alloc, scene.sheets.items())?,
-            palettes: palettes_of(alloc, scene.palettes.items())?,
+            palettes: lists_of(alloc, scene.palettes.items())?,
         })
     }
 

@@ -4,7 +4,7 @@ ghost use Rattle.xs_index.specs.Order.{has_begun as begun_by, IsInOrder, IsOrder
 
 use crate::has_row::HasRow;
 use std::alloc::Global;
-use xs_pixel::{List, Memory};
+use xs_base::{List, Memory};
 
 /// The same items in the order of their rows, group by group.
 pub fn in_order<T: HasRow>(alloc: Global, items: &[T]) -> Result<List<T>, Memory>

@@ -7,7 +7,7 @@ ghost use Rattle.xs_scene.specs.Records.{ColumnRecord, ColoursRecord, PegKeyReco
 ghost use Rattle.xs_meaning.specs.Cells.{cell_at};
 ghost use Rattle.xs_meaning.specs.Palettes.{key_at};
 ghost use Rattle.xs_meaning.specs.Places.{own_offset as offset_at};
-ghost use Rattle.xs_meaning.specs.Points.{point};
+ghost use Rattle.xs_pixel.specs.Points.{point};
 ghost use Rattle.xs_index.specs.Apart.{AreApart, DifferInRow, DifferInRowOrStyle};
 ghost use Rattle.xs_index.specs.Order.{IsInOrder};
 

@@ -1,5 +1,2 @@
-pub mod Codes
-pub mod Fields
-pub mod Paths
-pub mod Reading
+pub mod Parsing
 pub mod Objects

@@ -3,15 +3,11 @@ use Rattle.std.specs.Prelude.{ℕ, ℤ, List, Bool, true, not, ◌&&◌, int_lt,
 use Rattle.std.specs.List.{list_any}
 use Rattle.serde_json.specs.Data.{Data, Items, Members, no_members, member}
 use Rattle.serde_json.specs.Find.{get_member, as_object, as_array, as_str, as_bool, as_number, as_i64}
-use Rattle.xs_json.specs.declared.code.SceneCode.TheVariants as code
-use Rattle.xs_json.specs.declared.field.Field.{Field}
-use Rattle.xs_json.specs.Fields.{field_text}
-use Rattle.xs_json.specs.Paths.{key_at}
-use Rattle.xs_json.specs.Reading.{Reading, ◌>>=◌, fault, or_fault}
-
--- the path of a field of the object at a path
-abbrev pub path_of : Field → List ℕ → List ℕ
-path_of k at = key_at at (field_text k)
+use Rattle.xs_fault.specs.declared.code.SceneCode.TheVariants as code
+use Rattle.xs_fault.specs.declared.field.Field.{Field}
+use Rattle.xs_fault.specs.Fields.{field_text}
+use Rattle.xs_fault.specs.Paths.{path_of}
+use Rattle.xs_json.specs.Parsing.{Parsed, ◌>>=◌, fault, or_fault}
 
 -- the value of a field, if it is there
 abbrev pub value_of : Field → Members → Option Data
@@ -38,40 +34,40 @@ abbrev pub first_missing : List Field → Members → Option Field
 first_missing needed ms = find (λ k. not (has k ms)) needed
 
 -- the members, where each is one of the fields
-abbrev pub known_only : List Field → List ℕ → Members → Reading Members
+abbrev pub known_only : List Field → List ℕ → Members → Parsed Members
 known_only keys at ms = if has_only keys ms then Ok ms else fault code.UnknownKey at
 
-abbrev pub told_missing : Option Field → List ℕ → Members → Reading Members
+abbrev pub told_missing : Option Field → List ℕ → Members → Parsed Members
 told_missing None at ms = Ok ms
 told_missing (Some k) at ms = fault code.MissingKey (path_of k at)
 
 -- the members, where each of the fields is there
-abbrev pub none_missing : List Field → List ℕ → Members → Reading Members
+abbrev pub none_missing : List Field → List ℕ → Members → Parsed Members
 none_missing needed at ms = told_missing (first_missing needed ms) at ms
 
 -- an object, which has no other field than keys, and each of those needed
-abbrev pub object_at : List Field → List Field → List ℕ → Data → Reading Members
+abbrev pub object_at : List Field → List Field → List ℕ → Data → Parsed Members
 object_at keys needed at d = do
   ms ← or_fault (as_object d) code.WrongKind at
   known ← known_only keys at ms
   none_missing needed at known
 
 -- a field that is needed
-abbrev pub required_at : Field → List ℕ → Members → Reading Data
+abbrev pub required_at : Field → List ℕ → Members → Parsed Data
 required_at k at ms = or_fault (value_of k ms) code.MissingKey (path_of k at)
 
 -- a whole number of 64 bits with sign, in this range
-abbrev pub whole_at : ℤ → ℤ → List ℕ → Data → Reading ℤ
+abbrev pub whole_at : ℤ → ℤ → List ℕ → Data → Parsed ℤ
 whole_at least most at d = do
   z ← or_fault (option_and_then as_i64 (as_number d)) code.WrongKind at
   if int_lt z least then fault code.OutOfRange at else (if int_lt most z then fault code.OutOfRange at else Ok z)
 
-abbrev pub text_at : List ℕ → Data → Reading (List ℕ)
+abbrev pub text_at : List ℕ → Data → Parsed (List ℕ)
 text_at at d = or_fault (as_str d) code.WrongKind at
 
-abbrev pub list_at : List ℕ → Data → Reading Items
+abbrev pub list_at : List ℕ → Data → Parsed Items
 list_at at d = or_fault (as_array d) code.WrongKind at
 
 -- true or false
-abbrev pub flag_at : List ℕ → Data → Reading Bool
+abbrev pub flag_at : List ℕ → Data → Parsed Bool
 flag_at at d = or_fault (as_bool d) code.WrongKind at

@@ -1,15 +1,11 @@
 ghost use Rattle.std.specs.Prelude.{◌≡◌, option_map};
 ghost use Rattle.serde_json.specs.View.{view, members_view};
-ghost use Rattle.xs_json.specs.Reading.{Gives};
+ghost use Rattle.xs_json.specs.Parsing.{Gives};
 ghost use Rattle.xs_json.specs.Objects.{value_of, has_only, has_any, first_missing, none_missing, is_key, object_at, required_at};
 
-use crate::code::SceneCode;
-use crate::fault::FieldFault;
-use crate::field::Field;
-use crate::path::Path;
-use crate::place::{Place, fault_at};
 use serde_json::{Map, Value};
 use std::alloc::Global;
+use xs_fault::{Field, FieldFault, Path, Place, SceneCode, fault_at};
 
 /// The value of a field, if it is there.
 pub fn optional(map: &Map<String, Value>, k: Field) -> Option<&Value>

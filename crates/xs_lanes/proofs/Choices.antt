@@ -23,7 +23,9 @@ greater_chosen (x ∷ xs) [] = refl
 greater_chosen (x ∷ xs) (y ∷ ys) = let one = greater_is x y in let later = greater_chosen xs ys in cc
 
 -- a sum with at most what the first lacks of 255
-pub capped_sums_are : (xs ys : List ℕ) → Each1 (Fits w8) xs → zip2 (λ a b. (a + b) % 2 ^ 8) xs (zip2 min ys (map (λ a. 2 ^ 8 - 1 - a) xs)) ≡ zip2 (λ a b. min 255 (a + b)) xs ys
+pub capped_sums_are :
+    (xs ys : List ℕ) → Each1 (Fits w8) xs
+    → zip2 (λ a b. (a + b) % 2 ^ 8) xs (zip2 min ys (map (λ a. 2 ^ 8 - 1 - a) xs)) ≡ zip2 (λ a b. min 255 (a + b)) xs ys
 capped_sums_are [] ys fit = refl
 capped_sums_are (x ∷ xs) [] fit = refl
 capped_sums_are (x ∷ xs) (y ∷ ys) fit =
@@ -32,7 +34,9 @@ capped_sums_are (x ∷ xs) (y ∷ ys) fit =
     cc
 
 -- a difference from at least what is taken away
-pub differences_are : (xs ys : List ℕ) → Each1 (Fits w8) xs → Each1 (Fits w8) ys → zip2 (λ a b. (a + (2 ^ 8 - b)) % 2 ^ 8) (zip2 max xs ys) ys ≡ zip2 (λ a b. a - b) xs ys
+pub differences_are :
+    (xs ys : List ℕ) → Each1 (Fits w8) xs → Each1 (Fits w8) ys
+    → zip2 (λ a b. (a + (2 ^ 8 - b)) % 2 ^ 8) (zip2 max xs ys) ys ≡ zip2 (λ a b. a - b) xs ys
 differences_are [] ys left right = refl
 differences_are (x ∷ xs) [] left right = refl
 differences_are (x ∷ xs) (y ∷ ys) left right =

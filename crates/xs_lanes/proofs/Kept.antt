@@ -1,7 +1,7 @@
 use Rattle.std.proofs.Common.{◌≡◌, ℕ, List, length, map}
 use Rattle.xs_pixel.specs.Channels.{Channels}
-use Rattle.xs_pixel.specs.Rows.{pixels}
-use Rattle.xs_cm32.specs.Rows.{words}
+use Rattle.xs_pixel.specs.PixelRows.{pixels}
+use Rattle.xs_cm32.specs.WordRows.{words}
 use Rattle.xs_lanes.specs.Done.{Done}
 
 -- what the loop over blocks of words keeps: the colours so far, and those of the last block

@@ -1,8 +1,8 @@
-pub mod Blocks
-pub mod Choices
-pub mod Fours
-pub mod Kept
-pub mod Lengths
-pub mod Mixing
-pub mod Products
-pub mod Steps
+mod Blocks
+mod Choices
+mod Fours
+mod Kept
+mod Lengths
+mod Mixing
+mod Products
+mod Steps

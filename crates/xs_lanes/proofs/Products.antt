@@ -19,7 +19,7 @@ unfolding product
 product_below x y left right = omega (arith, mul-le-mul left right)
 
 -- the same of each two lanes, as the code computes it
-abbrev pub products_made : ℕ → List ℕ → List ℕ → List ℕ
+abbrev products_made : ℕ → List ℕ → List ℕ → List ℕ
 products_made n xs ys =
     let sums = zip2 (λ a b. (a + b) % 2 ^ 16) (zip2 (λ a b. a * b % 2 ^ 16) (map (λ a. a) xs) (map (λ a. a) ys)) (replicate n 128) in
     zip2 (λ a b. a / 2 ^ b) (zip2 (λ a b. (a + b) % 2 ^ 16) sums (zip2 (λ a b. a / 2 ^ b) sums (replicate n 8))) (replicate n 8)

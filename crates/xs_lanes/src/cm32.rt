@@ -1,11 +1,11 @@
 ghost use Rattle.std.specs.Prelude.{◌≡◌, ℕ, ◌+◌, ◌*◌, ◌≤◌, ◌<◌, ◌%◌, ◌^◌, ◌++◌, [], ◌∷◌, map, length, IsTrue};
 ghost use Rattle.std.specs.Simd.Lanes.{Each1, chunk};
 ghost use Rattle.xs_pixel.specs.Channels.{IsPixel};
-ghost use Rattle.xs_pixel.specs.Rows.{pixels};
-ghost use Rattle.xs_cm32.specs.Rows.{words};
+ghost use Rattle.xs_pixel.specs.PixelRows.{pixels};
+ghost use Rattle.xs_cm32.specs.WordRows.{words};
 ghost use Rattle.xs_cm32.specs.Word.{colour_under};
 ghost use Rattle.xs_palette.specs.Styles.{style_of};
-ghost use Rattle.xs_lanes.specs.Colours.{looked_up, tones_of, mixes_of};
+ghost use Rattle.xs_lanes.specs.WordColours.{looked_up, tones_of, mixes_of};
 ghost use Rattle.xs_lanes.specs.Done.{Done};
 
 use std::simd::prelude::*;

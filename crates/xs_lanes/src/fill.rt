@@ -1,7 +1,7 @@
 ghost use Rattle.std.specs.Prelude.{◌≡◌, ◌+◌, ◌/◌, ◌%◌, length, replicate};
 ghost use Rattle.std.specs.Simd.Lanes.{Each1};
 ghost use Rattle.xs_pixel.specs.Channels.{IsPixel};
-ghost use Rattle.xs_pixel.specs.Rows.{pixels};
+ghost use Rattle.xs_pixel.specs.PixelRows.{pixels};
 ghost use Rattle.xs_lanes.specs.Done.{Done};
 
 use std::simd::prelude::*;

@@ -1,7 +1,7 @@
 ghost use Rattle.std.specs.Prelude.{◌≡◌, ℕ, ◌+◌, ◌≤◌, ◌%◌, [], ◌∷◌, length};
 ghost use Rattle.std.specs.Simd.Lanes.{Each1, zip2, chunk};
 ghost use Rattle.xs_pixel.specs.Channels.{IsPixel};
-ghost use Rattle.xs_pixel.specs.Rows.{pixels};
+ghost use Rattle.xs_pixel.specs.PixelRows.{pixels};
 ghost use Rattle.xs_lanes.specs.Done.{Done};
 
 use std::simd::prelude::*;
@@ -52,7 +52,7 @@ fn blocks<K: Kernel>(u: &[u8], d: &[u8], to: &mut [u8]) -> usize
 }
 
 /// Does the pixels from a place on, one after another.
-pub(crate) fn rest<K: Kernel>(u: &[u8], d: &[u8], to: &mut [u8], from: usize)
+fn rest<K: Kernel>(u: &[u8], d: &[u8], to: &mut [u8], from: usize)
     requires same { length d.now ≡ length u.now }
     requires room { length to.old ≡ length u.now }
     requires whole { length u.now % 4 ≡ 0 }
@@ -69,8 +69,21 @@ pub(crate) fn rest<K: Kernel>(u: &[u8], d: &[u8], to: &mut [u8], from: usize)
     }
 }
 
-/// Does a whole row: by blocks, and then the pixels that are left.
-pub(crate) fn row<K: Kernel>(u: &[u8], d: &[u8], to: &mut [u8])
+/// Does as many pixels as fill whole blocks, or none where they are to be done one after another, and
+/// returns the place of the first byte that is left.
+fn start<K: Kernel>(u: &[u8], d: &[u8], to: &mut [u8], by_blocks: bool) -> usize
+    requires same { length d.now ≡ length u.now }
+    requires room { length to.old ≡ length u.now }
+    requires whole { length u.now % 4 ≡ 0 }
+    requires first { Each1 IsPixel (pixels u.now) }
+    requires second { Each1 IsPixel (pixels d.now) }
+    ensures { Done (zip2 K.op (pixels u.now) (pixels d.now)) to.new result }
+{
+    if by_blocks { blocks::<K>(u, d, to) } else { 0 }
+}
+
+/// Does a whole row: by blocks and then the pixels that are left, or one pixel after another.
+pub(crate) fn row<K: Kernel>(u: &[u8], d: &[u8], to: &mut [u8], by_blocks: bool)
     requires same { length d.now ≡ length u.now }
     requires room { length to.old ≡ length u.now }
     requires whole { length u.now % 4 ≡ 0 }
@@ -78,6 +91,6 @@ pub(crate) fn row<K: Kernel>(u: &[u8], d: &[u8], to: &mut [u8])
     requires second { Each1 IsPixel (pixels d.now) }
     ensures { pixels to.new ≡ zip2 K.op (pixels u.now) (pixels d.now) }
 {
-    let from = blocks::<K>(u, d, to);
+    let from = start::<K>(u, d, to, by_blocks);
     rest::<K>(u, d, to, from);
 }

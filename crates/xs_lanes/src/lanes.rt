@@ -1,7 +1,7 @@
 ghost use Rattle.std.specs.Prelude.{◌≡◌, ◌+◌, ◌-◌, ◌%◌, min, max, map, length, IsTrue};
 ghost use Rattle.std.specs.Simd.Lanes.{Each1, zip2};
 ghost use Rattle.xs_pixel.specs.Operations.{product};
-ghost use Rattle.xs_lanes.specs.Colours.{colour_lanes};
+ghost use Rattle.xs_lanes.specs.WordColours.{colour_lanes};
 
 use std::simd::prelude::*;
 

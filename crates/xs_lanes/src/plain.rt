@@ -4,13 +4,12 @@ ghost use Rattle.std.specs.Prelude.{◌≡◌, ◌/◌, ◌%◌, map, length, re
 ghost use Rattle.std.specs.Simd.Lanes.{Each1, zip2};
 ghost use Rattle.xs_pixel.specs.Channels.{IsPixel};
 ghost use Rattle.xs_pixel.specs.Operations.{apply_of};
-ghost use Rattle.xs_pixel.specs.Rows.{pixels};
-ghost use Rattle.xs_cm32.specs.Rows.{words};
+ghost use Rattle.xs_pixel.specs.PixelRows.{pixels};
+ghost use Rattle.xs_cm32.specs.WordRows.{words};
 ghost use Rattle.xs_cm32.specs.Word.{colour_under};
 ghost use Rattle.xs_palette.specs.Styles.{style_of};
 
-use crate::kernel::rest;
-use crate::operations::{Add, MatteIn, MatteOut, Max, Min, Mult, Over, Sub};
+use crate::rows::by_kernel;
 use crate::{cm32, fill};
 use xs_palette::Palette;
 use xs_pixel::{Op, Pixel};
@@ -24,16 +23,7 @@ pub fn op_row(op: Op, u: &[u8], d: &[u8], to: &mut [u8])
     requires second { Each1 IsPixel (pixels d.now) }
     ensures { pixels to.new ≡ zip2 (apply_of op) (pixels u.now) (pixels d.now) }
 {
-    match op {
-        Op::Over => rest::<Over>(u, d, to, 0),
-        Op::Add => rest::<Add>(u, d, to, 0),
-        Op::Sub => rest::<Sub>(u, d, to, 0),
-        Op::Mult => rest::<Mult>(u, d, to, 0),
-        Op::Min => rest::<Min>(u, d, to, 0),
-        Op::Max => rest::<Max>(u, d, to, 0),
-        Op::MatteIn => rest::<MatteIn>(u, d, to, 0),
-        Op::MatteOut => rest::<MatteOut>(u, d, to, 0),
-    }
+    by_kernel(op, u, d, to, false);
 }
 
 /// Writes the colours of a row of CM32 words under a palette.

@@ -14,12 +14,12 @@ use Rattle.xs_scene.specs.Records.{SheetRecord}
 use Rattle.xs_meaning.specs.Cells.{cell_at}
 use Rattle.xs_meaning.specs.Palettes.{Dropped, keeping, deleting}
 use Rattle.xs_meaning.specs.Places.{place_of}
-use Rattle.xs_meaning.specs.Points.{Point}
-use Rattle.xs_meaning.specs.Walk.{Reading, Rows, Inputs, sheet_at, column_at, terminals_of, seen_by, listed_by, node_by, walk, depth_of, above_by, composed_by, row_walk, whole_row, whole_input}
+use Rattle.xs_pixel.specs.Points.{Point}
+use Rattle.xs_meaning.specs.Walk.{Interpretation, RowAnswers, InputAnswers, sheet_at, column_at, terminals_of, seen_by, listed_by, node_by, walk, depth_of, above_by, composed_by, row_walk, whole_row, whole_input}
 
 -- T d relates the answers of two readings below d nested sheets, F the styles dropped for them; only
 -- cards and places of which the facts are known are met
-pub record Agrees {A B : Type 0} (R : Reading A) (S : Reading B) (T : ℕ → A → B → Type 0)
+pub record Agrees {A B : Type 0} (R : Interpretation A) (S : Interpretation B) (T : ℕ → A → B → Type 0)
     (F : Dropped → Dropped → Type 0) (IsCard : Style → Type 0) (IsPlace : Point → Type 0) : Type 0 where
   pub nothing : (d : ℕ) → T d R.nothing S.nothing
   pub drawing :
@@ -41,11 +41,11 @@ pub record Meets (IsCard : Style → Type 0) (IsPlace : Point → Type 0) (k : S
 pub meets-any : (k : SheetRecord) → Meets (λ style. Unit {0}) (λ q. Unit {0}) k
 meets-any k = record { cards = λ n style is. tt; places = λ c row. tt }
 
-module _ {A B : Type 0} (R : Reading A) (S : Reading B) (T : ℕ → A → B → Type 0)
+module _ {A B : Type 0} (R : Interpretation A) (S : Interpretation B) (T : ℕ → A → B → Type 0)
     (F : Dropped → Dropped → Type 0) (IsCard : Style → Type 0) (IsPlace : Point → Type 0)
     (agrees : Agrees R S T F IsCard IsPlace) where
   seen-agrees :
-      (d : ℕ) (rows : Rows A) (rows' : Rows B)
+      (d : ℕ) (rows : RowAnswers A) (rows' : RowAnswers B)
       → ((j row : ℕ) (f g : Dropped) → F f g → T d (rows j row f) (rows' j row g))
       → (seen : Seen) (row : ℕ) (f g : Dropped) → F f g
       → T d (seen_by R rows seen row f) (seen_by S rows' seen row g)
@@ -61,7 +61,7 @@ module _ {A B : Type 0} (R : Reading A) (S : Reading B) (T : ℕ → A → B →
   listed-agrees d input input' below (Some row) f g same = below row f g same
 
   node-agrees :
-      (d : ℕ) (val : Inputs A) (val' : Inputs B)
+      (d : ℕ) (val : InputAnswers A) (val' : InputAnswers B)
       → ((t : Ref) (row : ℕ) (f g : Dropped) → F f g → T d (val t row f) (val' t row g))
       → (node : Option Node) → ((style : Style) → node ≡ Some (Card style) → IsCard style)
       → (row : ℕ) (f g : Dropped) → F f g → T d (node_by R val node row f) (node_by S val' node row g)
@@ -81,7 +81,7 @@ module _ {A B : Type 0} (R : Reading A) (S : Reading B) (T : ℕ → A → B →
 
   -- on each column and node of a sheet, where they agree on the rows of the sheets that it shows
   pub walk-agrees :
-      (d : ℕ) (rows : Rows A) (rows' : Rows B)
+      (d : ℕ) (rows : RowAnswers A) (rows' : RowAnswers B)
       → ((j row : ℕ) (f g : Dropped) → F f g → T d (rows j row f) (rows' j row g))
       → (k : SheetRecord) → Meets IsCard IsPlace k
       → (m : ℕ) (n : Ref) (row : ℕ) (f g : Dropped) → F f g

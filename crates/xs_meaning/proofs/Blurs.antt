@@ -7,8 +7,8 @@ use Rattle.std.proofs.lemmas.List.{length-map}
 use Rattle.std.proofs.Math.Nat.{zero-div, div-le_of_le-mul, le-div_iff_mul-le, div-mul-le_self, mul-pos, le_trans}
 use mathlib.Core.Path.{fun_ext}
 use Rattle.xs_pixel.specs.Channels.{Channels, clear, IsPixel}
-use Rattle.xs_meaning.specs.Points.{Point, point, plus, minus, span, square}
-use Rattle.xs_meaning.specs.Rows.{Image, mean_of, blurred}
+use Rattle.xs_pixel.specs.Points.{Point, point, plus, minus, span, square}
+use Rattle.xs_pixel.specs.Images.{Image, mean_of, blurred}
 use Rattle.xs_meaning.proofs.Lists.{length-flat_map_even}
 
 sum_by-zero : {X : Type 0} (xs : List X) → sum_by (λ x. 0) xs ≡ 0

@@ -18,12 +18,12 @@ use Rattle.xs_meaning.specs.Cells.{cell_at, covers, shown_after}
 use Rattle.xs_meaning.specs.Ends.{InputsHave, NodesEnd, ShownHas, SeenHas, SheetsEnd, PegsEnd, AllEnd}
 use Rattle.xs_meaning.specs.Palettes.{Dropped, keeping, deleting}
 use Rattle.xs_meaning.specs.Places.{place_up, place_of, peg_at, own_offset}
-use Rattle.xs_meaning.specs.Points.{plus}
-use Rattle.xs_meaning.specs.Walk.{Reading, Rows, Inputs, sheet_at, column_at, no_column, terminals_of, seen_by, column_by, listed_by, node_by, walk, depth_of, composed_by, row_by, row_walk, whole_row, whole_input}
+use Rattle.xs_pixel.specs.Points.{plus}
+use Rattle.xs_meaning.specs.Walk.{Interpretation, RowAnswers, InputAnswers, sheet_at, column_at, no_column, terminals_of, seen_by, column_by, listed_by, node_by, walk, depth_of, composed_by, row_by, row_walk, whole_row, whole_input}
 use Rattle.xs_meaning.proofs.Lists.{All-slice_index_or}
 
 -- two answers for the same inputs at every row under every dropped styles
-abbrev SameInput : {A : Type 0} → Inputs A → Inputs A → Ref → Type 0
+abbrev SameInput : {A : Type 0} → InputAnswers A → InputAnswers A → Ref → Type 0
 SameInput val val' t = (row : ℕ) (f : Dropped) → val t row f ≡ val' t row f
 
 InputsHave-map :
@@ -46,14 +46,14 @@ InputsHave-all P all (Some (Keep input styles)) = all input
 InputsHave-all P all (Some (Delete input styles)) = all input
 
 listed_by-same :
-    {A : Type 0} (R : Reading A) (val val' : Inputs A) (t : Ref) (row : Option ℕ) (f : Dropped)
+    {A : Type 0} (R : Interpretation A) (val val' : InputAnswers A) (t : Ref) (row : Option ℕ) (f : Dropped)
     → SameInput val val' t → listed_by R (val t) row f ≡ listed_by R (val' t) row f
 listed_by-same R val val' t None f same = refl
 listed_by-same R val val' t (Some row) f same = same row f
 
 -- a node whose inputs have the same answers has the same answer
 node_by-same :
-    {A : Type 0} (R : Reading A) (val val' : Inputs A) (node : Option Node) (row : ℕ) (f : Dropped)
+    {A : Type 0} (R : Interpretation A) (val val' : InputAnswers A) (node : Option Node) (row : ℕ) (f : Dropped)
     → InputsHave (SameInput val val') node → node_by R val node row f ≡ node_by R val' node row f
 node_by-same R val val' None row f same = refl
 node_by-same R val val' (Some (Pair op first second)) row f same = ap₂ (R.pair op) (same.0 row f) (same.1 row f)
@@ -66,7 +66,7 @@ node_by-same R val val' (Some (Delete input styles)) row f same = same row (dele
 
 -- a walk that ends is no other with more depth
 walk-deeper :
-    {A : Type 0} (R : Reading A) (rows : Rows A) (k : SheetRecord) (m more : ℕ) → m ≤ more
+    {A : Type 0} (R : Interpretation A) (rows : RowAnswers A) (k : SheetRecord) (m more : ℕ) → m ≤ more
     → (n : Ref) → NodesEnd k m n → SameInput (walk R rows k (suc more)) (walk R rows k (suc m)) n
 unfolding walk NodesEnd
 walk-deeper R rows k zero more le (ToColumn c) ends row f = refl
@@ -111,11 +111,11 @@ seen-ends sheets d k c row ends =
     (unfold SheetsEnd in subst (λ (n : ℕ). SheetsEnd sheets n k) (let e : d + 1 ≡ suc d = omega arith in e) ends))
 
 -- two answers for the rows of a sheet
-abbrev SameRows : {A : Type 0} → Rows A → Rows A → ℕ → Type 0
+abbrev SameRows : {A : Type 0} → RowAnswers A → RowAnswers A → ℕ → Type 0
 SameRows rows rows' j = (row : ℕ) (f : Dropped) → rows j row f ≡ rows' j row f
 
 seen_by-same :
-    {A : Type 0} (R : Reading A) (rows rows' : Rows A) (seen : Seen) (row : ℕ) (f : Dropped)
+    {A : Type 0} (R : Interpretation A) (rows rows' : RowAnswers A) (seen : Seen) (row : ℕ) (f : Dropped)
     → SeenHas (SameRows rows rows') seen → seen_by R rows seen row f ≡ seen_by R rows' seen row f
 seen_by-same R rows rows' Empty row f same = refl
 seen_by-same R rows rows' (Drawing level index) row f same = refl
@@ -133,7 +133,7 @@ ShowsOnly-map : (P Q : ℕ → Type 0) → ((j : ℕ) → P j → Q j) → (k : 
 ShowsOnly-map P Q leads k shows = λ i column lt j e below. ShownHas-map P Q leads _ (shows i column lt j e below)
 
 column_by-same :
-    {A : Type 0} (R : Reading A) (rows rows' : Rows A) (k : SheetRecord) (c row : ℕ) (f : Dropped)
+    {A : Type 0} (R : Interpretation A) (rows rows' : RowAnswers A) (k : SheetRecord) (c row : ℕ) (f : Dropped)
     → ShowsOnly (SameRows rows rows') k → column_by R rows k c row f ≡ column_by R rows' k c row f
 column_by-same R rows rows' k c row f shows =
     ap (R.moved (place_of k (column_at k c).peg row))
@@ -143,7 +143,7 @@ column_by-same R rows rows' k c row f shows =
     k.columns c no_column (λ i d lt. absurd (omega arith)) shows)))
 
 walk-same :
-    {A : Type 0} (R : Reading A) (rows rows' : Rows A) (k : SheetRecord) → ShowsOnly (SameRows rows rows') k
+    {A : Type 0} (R : Interpretation A) (rows rows' : RowAnswers A) (k : SheetRecord) → ShowsOnly (SameRows rows rows') k
     → (m : ℕ) (n : Ref) → SameInput (walk R rows k m) (walk R rows' k m) n
 unfolding walk
 walk-same R rows rows' k shows zero n row f = refl
@@ -154,14 +154,14 @@ walk-same R rows rows' k shows (suc m) (ToNode n) row f =
     (slice_get k.nodes n))
 
 row_by-same :
-    {A : Type 0} (R : Reading A) (val val' : Inputs A) (k : SheetRecord) (row : ℕ) (f : Dropped)
+    {A : Type 0} (R : Interpretation A) (val val' : InputAnswers A) (k : SheetRecord) (row : ℕ) (f : Dropped)
     → ((t : Ref) → val t row f ≡ val' t row f) → row_by R val k row f ≡ row_by R val' k row f
 row_by-same R val val' k row f same =
     ap (λ v. composed_by R (map v (terminals_of k))) (fun_ext same)
 
 -- a row whose nested sheets end is no other with more depth
 row_walk-deeper :
-    {A : Type 0} (R : Reading A) (sheets : List SheetRecord) (d more : ℕ) → d ≤ more
+    {A : Type 0} (R : Interpretation A) (sheets : List SheetRecord) (d more : ℕ) → d ≤ more
     → (k : ℕ) → SheetsEnd sheets d k → SameRows (row_walk R sheets more) (row_walk R sheets d) k
 unfolding row_walk SheetsEnd
 row_walk-deeper R sheets zero more le k ends row f = absurd ends
@@ -180,14 +180,14 @@ row_walk-deeper R sheets (suc d) (suc more) le k ends row f =
 -- the rules of a column, a node and a row, for every reading
 
 pub whole_input-column :
-    {A : Type 0} (R : Reading A) (sheets : List SheetRecord) (k c row : ℕ) (f : Dropped)
+    {A : Type 0} (R : Interpretation A) (sheets : List SheetRecord) (k c row : ℕ) (f : Dropped)
     → whole_input R sheets k (ToColumn c) row f ≡ column_by R (whole_row R sheets) (sheet_at sheets k) c row f
 unfolding walk
 whole_input-column R sheets k c row f = refl
 
 -- the inputs of a node whose ways end are the same one deeper
 inputs-settled :
-    {A : Type 0} (R : Reading A) (rows : Rows A) (k : SheetRecord) (l n : ℕ) → NodesEnd k l (ToNode n)
+    {A : Type 0} (R : Interpretation A) (rows : RowAnswers A) (k : SheetRecord) (l n : ℕ) → NodesEnd k l (ToNode n)
     → InputsHave (SameInput (walk R rows k l) (walk R rows k (suc l))) (slice_get k.nodes n)
 unfolding NodesEnd
 inputs-settled R rows k zero n ends = absurd ends
@@ -197,7 +197,7 @@ inputs-settled R rows k (suc l) n ends =
     (slice_get k.nodes n) ends
 
 pub whole_input-node :
-    {A : Type 0} (R : Reading A) (sheets : List SheetRecord) → AllEnd sheets
+    {A : Type 0} (R : Interpretation A) (sheets : List SheetRecord) → AllEnd sheets
     → (k n row : ℕ) (f : Dropped)
     → whole_input R sheets k (ToNode n) row f
     ≡ node_by R (whole_input R sheets k) (slice_get (sheet_at sheets k).nodes n) row f
@@ -222,7 +222,7 @@ whole_input-node R sheets ends k n row f =
         (ends.nodes k n lt)
 
 pub whole_row-row :
-    {A : Type 0} (R : Reading A) (sheets : List SheetRecord) → AllEnd sheets
+    {A : Type 0} (R : Interpretation A) (sheets : List SheetRecord) → AllEnd sheets
     → (k row : ℕ) (f : Dropped)
     → whole_row R sheets k row f ≡ row_by R (whole_input R sheets k) (sheet_at sheets k) row f
 whole_row-row R sheets ends k row f =
@@ -263,7 +263,7 @@ place_of-peg sheets ends k i row lt =
 
 -- no way through a sheet's nodes is longer than the sheet has nodes
 pub whole_input-deeper :
-    {A : Type 0} (R : Reading A) (sheets : List SheetRecord) → AllEnd sheets
+    {A : Type 0} (R : Interpretation A) (sheets : List SheetRecord) → AllEnd sheets
     → (more k : ℕ) (n : Ref) (row : ℕ) (f : Dropped)
     → walk R (whole_row R sheets) (sheet_at sheets k) (depth_of (sheet_at sheets k) + more) n row f
     ≡ whole_input R sheets k n row f
@@ -294,7 +294,7 @@ whole_input-deeper R sheets ends more k n row f =
         (cases_lt n rest)
 
 pub whole_row-deeper :
-    {A : Type 0} (R : Reading A) (sheets : List SheetRecord) → AllEnd sheets
+    {A : Type 0} (R : Interpretation A) (sheets : List SheetRecord) → AllEnd sheets
     → (more k row : ℕ) (f : Dropped) → row_walk R sheets (16 + more) k row f ≡ whole_row R sheets k row f
 whole_row-deeper R sheets ends more k row f =
     row_walk-deeper R sheets 16 (16 + more) (omega arith) k (ends.sheets_end k) row f

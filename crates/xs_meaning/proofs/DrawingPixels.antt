@@ -4,7 +4,7 @@ use Rattle.std.proofs.lemmas.Bool.{cond_both}
 use Rattle.std.specs.Option.{option_map_or}
 use Rattle.std.proofs.lemmas.List.Elements.{All-filter, All-map}
 use Rattle.xs_pixel.specs.Channels.{Channels, clear, IsPixel}
-use Rattle.xs_pixel.specs.Picture.{Picture, Content, Colours, Words, at_point, place_in_box, is_in_box}
+use Rattle.xs_pixel.specs.Picture.{Picture, Content, Pixels, Words, at_point, place_in_box, is_in_box}
 use Rattle.xs_pixel.specs.declared.style.Style.{Style}
 use Rattle.xs_pixel.proofs.StaysPixel.{IsPixel-premultiplied}
 use Rattle.xs_cm32.specs.Word.{ink_of, paint_of, colour_under}
@@ -12,11 +12,12 @@ use Rattle.xs_cm32.proofs.Mixes.{IsPixel-colour_of}
 use Rattle.xs_scene.specs.declared.level.Kind.{Kind}
 use Rattle.xs_scene.specs.declared.level.Kind.TheVariants.{Colour, Cm32}
 use Rattle.xs_scene.specs.Records.{SceneRecord, LevelRecord, ColoursRecord, StyleKeyRecord}
-use Rattle.xs_meaning.specs.Points.{Point}
+use Rattle.xs_pixel.specs.Points.{Point}
 use Rattle.xs_meaning.specs.Palettes.{Colouring, Dropped, pixel_of, style_at, key_at, keyed, keyed_pixel}
-use Rattle.xs_meaning.specs.Drawings.{Pictures, level_of, palette_of, colours_of, no_colours, pixels_in, words_in, drawing_pixel, colouring_at}
+use Rattle.xs_pixel.specs.Picture.{Pictures, pixels_in, words_in}
+use Rattle.xs_meaning.specs.Drawings.{level_of, palette_of, colours_of, no_colours, drawing_pixel, colouring_at}
 use Rattle.xs_scene.specs.InRange.{IsStyle, ColoursInRange, IsInRange}
-use Rattle.xs_meaning.specs.Drawings.{HoldsPixels, ArePixels}
+use Rattle.xs_pixel.specs.Picture.{HoldsPixels, ArePixels}
 use Rattle.xs_meaning.proofs.KeyLemmas.{latest-has}
 use Rattle.xs_meaning.proofs.Lists.{All-slice_get, All-slice_index_or}
 
@@ -30,11 +31,13 @@ IsStyle-keyed : (key : Option StyleKeyRecord) (style : Style) → IfSome key (λ
 IsStyle-keyed None style keys bytes = bytes
 IsStyle-keyed (Some key) style keys bytes = keys
 
-IsPixel-option : (g : Style → Channels) (style : Option Style) → ((s : Style) → IsStyle s → IsPixel (g s)) → IfSome style IsStyle → IsPixel (option_map_or g style clear)
+IsPixel-option :
+    (g : Style → Channels) (style : Option Style) → ((s : Style) → IsStyle s → IsPixel (g s))
+    → IfSome style IsStyle → IsPixel (option_map_or g style clear)
 IsPixel-option g None pixel bytes = IsPixel-clear
 IsPixel-option g (Some style) pixel bytes = pixel style bytes
 
-pub IsPixel-style_at : (c : ColoursRecord) → ColoursInRange c → (row : ℕ) (f : Dropped) (style : ℕ) → IsPixel (style_at c row f style)
+IsPixel-style_at : (c : ColoursRecord) → ColoursInRange c → (row : ℕ) (f : Dropped) (style : ℕ) → IsPixel (style_at c row f style)
 unfolding style_at
 IsPixel-style_at c bytes row f style =
     cond_both (style == 0 || f style) clear (keyed_pixel (key_at c row style) (slice_get c.styles style))
@@ -52,7 +55,9 @@ IsPixel-style_at c bytes row f style =
         (λ i d lt. (bytes.keys i d lt).to))
 
 -- at a point of a picture stands one of its items, or what is outside
-at_point-has : {X : Type 0} (P : X → Type 0) (q : Picture) (items : List X) (outside : X) (p : Point) → P outside → All P items → P (at_point q items outside p.x p.y)
+at_point-has :
+    {X : Type 0} (P : X → Type 0) (q : Picture) (items : List X) (outside : X) (p : Point) → P outside
+    → All P items → P (at_point q items outside p.x p.y)
 unfolding at_point
 at_point-has P q items outside p beyond all =
     cond_both (is_in_box q.x0 q.y0 q.w q.h p.x p.y) _ outside P
@@ -71,7 +76,7 @@ IsPixel-drawing_pixel (Some q) None p pixels coloured =
     at_point-has IsPixel q (pixels_in q.content) clear p IsPixel-clear (held q.content pixels)
   where
     held : (content : Content) → HoldsPixels content → All IsPixel (pixels_in content)
-    held (Colours ps) all = all
+    held (Pixels ps) all = all
     held (Words ws) all = λ k d lt. absurd (omega arith)
 IsPixel-drawing_pixel (Some q) (Some g) p pixels coloured =
     at_point-has IsPixel q (map (colour_under g) (words_in q.content)) clear p IsPixel-clear
@@ -84,7 +89,7 @@ ColoursInRange-palette_of palettes all (Cm32 palette) =
     All-slice_index_or ColoursInRange palettes palette no_colours
     (record { styles = λ k d lt. absurd (omega arith); keys = λ k d lt. absurd (omega arith) }) all
 
-pub ColoursInRange-colours_of : (s : SceneRecord) → IsInRange s → (d : ℕ) → IfSome (colours_of s d) ColoursInRange
+ColoursInRange-colours_of : (s : SceneRecord) → IsInRange s → (d : ℕ) → IfSome (colours_of s d) ColoursInRange
 unfolding colours_of
 ColoursInRange-colours_of s range d = of_level (level_of s.levels d)
   where

@@ -3,7 +3,8 @@ use Rattle.std.proofs.Common.{ℕ, ◌≡◌, ◌<◌, ◌==◌, ◌||◌, ◌&&
 use Rattle.std.specs.Option.{option_map_or}
 use Rattle.xs_pixel.specs.Channels.{clear}
 use Rattle.xs_scene.specs.Records.{ColoursRecord}
-use Rattle.xs_meaning.specs.Palettes.{Dropped, deleting, keeping, is_listed, style_at, pixel_of, keyed, key_at}
+use Rattle.xs_meaning.specs.Palettes.{Dropped, deleting, keeping, style_at, pixel_of, keyed, key_at}
+use Rattle.xs_base.specs.Listed.{is_listed}
 use Rattle.std.proofs.Math.Bool.{or-false, and-false}
 use Rattle.xs_meaning.proofs.UnusedStyles.{style_at-dropped}
 

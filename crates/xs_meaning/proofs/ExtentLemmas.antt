@@ -9,7 +9,7 @@ use Rattle.xs_meaning.specs.Drawings.{colours_of, number_of}
 use Rattle.xs_meaning.specs.Expressions.{Expr, Clear, Leaf, Tinted, Card, Pair, Blur, is_clear, Staying, Both, First, Second, Neither, staying, pair_staying, pair_of, blur_of, card_of, leaf_by, by_offsets, row_expr, input_expr, reach_of}
 use Rattle.xs_meaning.specs.Extents.{extent_of, extent_staying, wider, by_extent}
 use Rattle.xs_meaning.specs.Palettes.{Dropped, keeping, deleting, is_as_written, is_clear_pixel, pixel_of, tint_at}
-use Rattle.xs_meaning.specs.Points.{Point, plus}
+use Rattle.xs_pixel.specs.Points.{Point, plus}
 use Rattle.xs_meaning.specs.Walk.{sheet_at, whole_row, whole_input}
 use Rattle.xs_meaning.proofs.Agree.{Agrees, whole_row-agrees, whole_input-agrees, meets-any}
 

@@ -6,16 +6,18 @@ use Rattle.std.proofs.lemmas.List.Concat.{get_or-flat_map}
 use Rattle.std.proofs.lemmas.List.FromFn.{get_or-range_with_len, get_or-map-range_with_len, length-range_with_len, length-map-range_with_len}
 use Rattle.xs_pixel.specs.Channels.{Channels}
 use Rattle.xs_scene.specs.Records.{SceneRecord}
-use Rattle.xs_meaning.specs.Drawings.{Pictures}
-use Rattle.xs_meaning.specs.Points.{point}
-use Rattle.xs_meaning.specs.Rows.{frame_of, frame_pixel}
+use Rattle.xs_pixel.specs.Picture.{Pictures}
+use Rattle.xs_pixel.specs.Points.{point}
+use Rattle.xs_meaning.specs.RowValues.{frame_of, frame_pixel}
 use Rattle.xs_meaning.proofs.Lists.{length-flat_map_even}
 
 module _ {A : Type 0} (line : ℕ → List A) (w : ℕ) (long : (y : ℕ) → length (line y) ≡ w) where
   in_line : (ys : List ℕ) (i j e : ℕ) (outside : A) → i < length ys → j < w
       → get_or (flat_map line ys) (i * w + j) outside ≡ get_or (line (get_or ys i e)) j outside
   in_line ys i j e outside within along =
-      let before : length (flat_map line (take i ys)) ≡ i * w = length-flat_map_even line w long (take i ys) ∙ ap (λ n. n * w) (length-take-le i ys (omega arith)) in
+      let before : length (flat_map line (take i ys)) ≡ i * w =
+      length-flat_map_even line w long (take i ys) ∙ ap (λ n. n * w) (length-take-le i ys (omega arith))
+      in
       ap (λ n. get_or (flat_map line ys) (n + j) outside) (sym before)
       ∙ get_or-flat_map line ys i j e outside within (subst (λ n. j < n) (sym (long (get_or ys i e))) along)
 

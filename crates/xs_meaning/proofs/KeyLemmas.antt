@@ -132,6 +132,8 @@ pub choice-more :
 choice-more {K = K} choice next push p xs i x within is =
     ap choice (filter_more p xs i x within ∙ ap (λ k. filter p (take i xs) ++ cond (p k) (k ∷ []) []) (sym is)) ∙ grown (p x)
   where
-    grown : (b : Bool) → choice (filter p (take i xs) ++ cond b (x ∷ []) []) ≡ cond b (Some (next (choice (filter p (take i xs))) x)) (choice (filter p (take i xs)))
+    grown :
+        (b : Bool)
+        → choice (filter p (take i xs) ++ cond b (x ∷ []) []) ≡ cond b (Some (next (choice (filter p (take i xs))) x)) (choice (filter p (take i xs)))
     grown true = push (filter p (take i xs)) x
     grown false = ap choice (append-nil (filter p (take i xs)))

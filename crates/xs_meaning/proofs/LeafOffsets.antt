@@ -9,8 +9,8 @@ use Rattle.xs_meaning.specs.Drawings.{colours_of, number_of}
 use Rattle.xs_meaning.specs.Expressions.{Expr, Clear, Leaf, Tinted, Card, Pair, Blur, is_clear, Staying, Both, First, Second, Neither, staying, pair_staying, blur_of, leaf_by, by_offsets, row_expr, root_of}
 use Rattle.xs_scene.specs.InRange.{IsInRange}
 use Rattle.xs_meaning.specs.Palettes.{Dropped, none_dropped, keeping, deleting, is_as_written, is_clear_pixel, pixel_of, tint_at}
-use Rattle.xs_meaning.specs.Points.{Point, plus, opposite}
-use Rattle.xs_meaning.specs.Rows.{camera_at}
+use Rattle.xs_pixel.specs.Points.{Point, plus, opposite}
+use Rattle.xs_meaning.specs.RowValues.{camera_at}
 use Rattle.xs_meaning.specs.Walk.{sheet_at, column_at}
 use Rattle.xs_meaning.proofs.Agree.{Agrees, Meets, whole_row-agrees}
 use Rattle.xs_meaning.proofs.SheetRanges.{sheet_at-in_range}

@@ -11,7 +11,6 @@ mod SameValue
 pub mod Depth
 mod Offsets
 mod LeafOffsets
-mod StateLemmas
 mod TableLemmas
 mod ExtentLemmas
 mod Canonical

@@ -1,5 +1,5 @@
--- Lemmas on lists, options and tests that std lacks
-use Rattle.std.proofs.Common.{ℕ, zero, suc, ◌≡◌, refl, Bool, true, false, List, [], ◌∷◌, slice_get, get_or, All, IfSome, arith, ◌&&◌, ◌*◌, ◌∙◌, length, flat_map, length-append, suc-mul}
+-- Lemmas on lists and options that std lacks
+use Rattle.std.proofs.Common.{ℕ, zero, suc, ◌≡◌, List, [], ◌∷◌, slice_get, get_or, All, IfSome, arith, ◌*◌, ◌∙◌, length, flat_map, length-append, suc-mul}
 use Rattle.std.proofs.lemmas.List.Elements.{All-tail}
 
 -- what holds of each element holds of one by its index
@@ -13,11 +13,6 @@ pub All-slice_index_or : {X : Type 0} (P : X → Type 0) (xs : List X) (i : ℕ)
 All-slice_index_or P [] i d default all = default
 All-slice_index_or P (x ∷ xs) zero d default all = all 0 x (omega arith)
 All-slice_index_or P (x ∷ xs) (suc i) d default all = All-slice_index_or P xs i d default (All-tail P x xs all)
-
-pub both_true : (a b : Bool) → (a && b) ≡ true → (a ≡ true) × (b ≡ true)
-both_true true true same = (refl, refl)
-both_true true false same = cc
-both_true false b same = cc
 
 -- lists of one length, one after another
 pub length-flat_map_even :

@@ -10,7 +10,7 @@ use Rattle.xs_scene.specs.InRange.{PegInRange}
 use Rattle.xs_scene.specs.Ranges.{IsOffset, IsPegKey}
 use Rattle.xs_meaning.specs.Bounds.{IsWithin}
 use Rattle.xs_meaning.specs.Places.{key_in_force, key_after, on_line, LiesBetween, offset_by, own_offset, place_up, place_of, peg_at, no_peg}
-use Rattle.xs_meaning.specs.Points.{Point, point, origin, plus}
+use Rattle.xs_pixel.specs.Points.{Point, point, origin, plus}
 use Rattle.xs_meaning.proofs.KeyLemmas.{latest-has, earliest-has}
 use Rattle.xs_meaning.proofs.Lists.{All-slice_index_or}
 
@@ -92,9 +92,11 @@ offset_by-within (Some a) (Some b) row first next =
     (IsWithin 65536)
     (λ passes.
     within 65536 (on_line a.x b.x (row - a.row) (b.row - a.row)) (on_line a.y b.y (row - a.row) (b.row - a.row))
-    (IsBetween-line 65536 a.x b.x (on_line a.x b.x (row - a.row) (b.row - a.row)) (on_line-between a.x b.x (row - a.row) (b.row - a.row) (omega (arith, first.1, next.1)) (omega (arith, first.1, next.1)))
+    (IsBetween-line 65536 a.x b.x (on_line a.x b.x (row - a.row) (b.row - a.row))
+    (on_line-between a.x b.x (row - a.row) (b.row - a.row) (omega (arith, first.1, next.1)) (omega (arith, first.1, next.1)))
     (IsBetween-offset a.x first.0.x) (IsBetween-offset b.x next.0.x))
-    (IsBetween-line 65536 a.y b.y (on_line a.y b.y (row - a.row) (b.row - a.row)) (on_line-between a.y b.y (row - a.row) (b.row - a.row) (omega (arith, first.1, next.1)) (omega (arith, first.1, next.1)))
+    (IsBetween-line 65536 a.y b.y (on_line a.y b.y (row - a.row) (b.row - a.row))
+    (on_line-between a.y b.y (row - a.row) (b.row - a.row) (omega (arith, first.1, next.1)) (omega (arith, first.1, next.1)))
     (IsBetween-offset a.y first.0.y) (IsBetween-offset b.y next.0.y)))
     (λ fails. within 65536 a.x a.y (IsBetween-offset a.x first.0.x) (IsBetween-offset a.y first.0.y))
 

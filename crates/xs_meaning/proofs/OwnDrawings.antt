@@ -5,19 +5,21 @@ use mathlib.Core.Path.{fun_ext}
 use Rattle.xs_pixel.specs.Operations.{apply_of}
 use Rattle.xs_scene.specs.Records.{SceneRecord}
 use Rattle.xs_meaning.specs.Agreement.{AgreeOn}
-use Rattle.xs_meaning.specs.Drawings.{Pictures, drawing_pixel, written_colouring}
+use Rattle.xs_pixel.specs.Picture.{Pictures}
+use Rattle.xs_meaning.specs.Drawings.{drawing_pixel, written_colouring}
 use Rattle.xs_meaning.specs.Expressions.{Expr, Clear, Leaf, Tinted, Card, Pair, Blur, drawings_of, value_of, root_of}
 use Rattle.xs_scene.specs.InRange.{IsInRange}
-use Rattle.xs_meaning.specs.Drawings.{ArePixels}
+use Rattle.xs_pixel.specs.Picture.{ArePixels}
 use Rattle.xs_meaning.specs.Palettes.{tint_style}
-use Rattle.xs_meaning.specs.Points.{Point, minus}
-use Rattle.xs_meaning.specs.Rows.{blurred, frame_pixel}
+use Rattle.xs_pixel.specs.Points.{Point, minus}
+use Rattle.xs_pixel.specs.Images.{blurred}
+use Rattle.xs_meaning.specs.RowValues.{frame_pixel}
 use Rattle.xs_meaning.proofs.SameValue.{value-root_of}
 
 first_drawing : (d : ℕ) → Contains (d ∷ []) d
 first_drawing d = (0, omega arith, refl)
 
-pub value-own_drawings :
+value-own_drawings :
     (s : SceneRecord) (pictures others : Pictures) (e : Expr) → AgreeOn pictures others (drawings_of e)
     → (p : Point) → value_of s pictures e p ≡ value_of s others e p
 unfolding value_of

@@ -9,8 +9,9 @@ use Rattle.xs_scene.specs.Records.{SceneRecord, LevelRecord, ColoursRecord}
 use Rattle.xs_meaning.specs.Agreement.{DropsAlike, PalettesAlike}
 use Rattle.xs_meaning.specs.Drawings.{colours_of, level_of, palette_of, no_colours, number_of}
 use Rattle.xs_meaning.specs.Expressions.{Expr, Leaf, Tinted, pair_of, blur_of, leaf_by, by_offsets, row_expr, input_expr}
-use Rattle.xs_meaning.specs.Palettes.{Dropped, deleting, keeping, is_listed, style_at, as_written, same_pixels, keyed_pixel, key_at}
-use Rattle.xs_meaning.specs.Points.{Point, plus}
+use Rattle.xs_meaning.specs.Palettes.{Dropped, deleting, keeping, style_at, as_written, same_pixels, keyed_pixel, key_at}
+use Rattle.xs_base.specs.Listed.{is_listed}
+use Rattle.xs_pixel.specs.Points.{Point, plus}
 use Rattle.xs_meaning.specs.Walk.{sheet_at}
 use Rattle.xs_meaning.proofs.Agree.{Agrees, whole_row-agrees, whole_input-agrees, meets-any}
 use Rattle.xs_meaning.proofs.Canonical.{tint_at-same, tint_by-written_same}

@@ -6,13 +6,15 @@ use Rattle.xs_pixel.specs.Channels.{IsPixel}
 use Rattle.xs_pixel.proofs.StaysPixel.{IsPixel-apply_of}
 use Rattle.xs_scene.specs.declared.node.Ref.{Ref}
 use Rattle.xs_scene.specs.Records.{SceneRecord}
-use Rattle.xs_meaning.specs.Drawings.{Pictures, number_of}
+use Rattle.xs_pixel.specs.Picture.{Pictures}
+use Rattle.xs_meaning.specs.Drawings.{number_of}
 use Rattle.xs_meaning.specs.Expressions.{Expr, by_offsets, blur_of, row_expr, input_expr, root_of, value_of}
 use Rattle.xs_scene.specs.InRange.{IsStyle, HasCardInRange, IsInRange}
-use Rattle.xs_meaning.specs.Drawings.{ArePixels}
+use Rattle.xs_pixel.specs.Picture.{ArePixels}
 use Rattle.xs_meaning.specs.Palettes.{Dropped, none_dropped, pixel_of, keeping, deleting}
-use Rattle.xs_meaning.specs.Points.{Point, point, plus, minus, opposite}
-use Rattle.xs_meaning.specs.Rows.{Image, by_points, blurred, row_under, row_of, value_under, camera_at}
+use Rattle.xs_pixel.specs.Points.{Point, point, plus, minus, opposite}
+use Rattle.xs_pixel.specs.Images.{Image, blurred}
+use Rattle.xs_meaning.specs.RowValues.{by_points, row_under, row_of, value_under, camera_at}
 use Rattle.xs_meaning.specs.Walk.{sheet_at}
 use Rattle.xs_meaning.proofs.Agree.{Agrees, Meets, whole_row-agrees, whole_input-agrees}
 use Rattle.xs_meaning.proofs.Blurs.{blurred-moved, IsPixel-blurred}
@@ -94,7 +96,9 @@ agrees s pictures range pixels =
 meets-in_range : (s : SceneRecord) → IsInRange s → (k : ℕ) → Meets IsStyle (λ q. Unit {0}) (sheet_at s.sheets k)
 meets-in_range s range k =
     record {
-      cards = λ n style is. subst (λ node. IfSome node HasCardInRange) is (All-slice_get HasCardInRange (sheet_at s.sheets k).nodes n (sheet_at-in_range s range k).cards);
+      cards =
+          λ n style is. subst (λ node. IfSome node HasCardInRange) is
+          (All-slice_get HasCardInRange (sheet_at s.sheets k).nodes n (sheet_at-in_range s range k).cards);
       places = λ c row. tt;
     }
 

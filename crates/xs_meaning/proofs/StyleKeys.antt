@@ -1,6 +1,6 @@
 -- The key that sets a style at a row, and the pixel that it gives
 use Rattle.std.proofs.Common.{ℕ, zero, suc, ◌≡◌, ◌≤◌, ◌<◌, ◌&&◌, ◌||◌, ◌==◌, refl, ap, ◌∙◌, Bool, true, false, cond, eqb, leb, Option, Some, None, List, [], ◌∷◌, All, IfSome, Contains, MatchOption, filter, slice_get, get_or, length, leb-true, ⊎_elim, arith}
-use Rattle.std.proofs.lemmas.Bool.{cases_lt, le-leb, and_from, eq-eqb, eqb-true}
+use Rattle.std.proofs.lemmas.Bool.{cases_lt, le-leb, and_from, eq-eqb, eqb-true, and_parts}
 use Rattle.std.proofs.lemmas.Bool.Decides.{nat_tests}
 use Rattle.std.proofs.lemmas.List.Elements.{All-filter, All-weaker, All-contains_itself, filter_passes}
 use Rattle.xs_pixel.specs.Channels.{Channels, clear}
@@ -11,14 +11,13 @@ use Rattle.xs_meaning.specs.Chosen.{IsStyleKeyInForce}
 use Rattle.xs_meaning.specs.Keys.{latest}
 use Rattle.xs_meaning.specs.Palettes.{Dropped, key_at, keyed_pixel, pixel_of, style_at, as_written}
 use Rattle.xs_meaning.proofs.KeyLemmas.{latest-has, latest-greatest, latest-none, filter-All, filter-none}
-use Rattle.xs_meaning.proofs.Lists.{both_true}
 
 abbrev sets : ℕ → ℕ → StyleKeyRecord → Bool
 sets style row k = eqb k.style style && leb k.row row
 
 set_by : (style row : ℕ) (k : StyleKeyRecord) → sets style row k ≡ true → (k.style ≡ style) × (k.row ≤ row)
 set_by style row k is =
-    let both = both_true (eqb k.style style) (leb k.row row) is in (eqb-true _ _ both.0, leb-true _ _ both.1)
+    let both = and_parts (eqb k.style style) (leb k.row row) is in (eqb-true _ _ both.0, leb-true _ _ both.1)
 
 sets_from : (style row : ℕ) (k : StyleKeyRecord) → k.style ≡ style → k.row ≤ row → sets style row k ≡ true
 sets_from style row k same begun = and_from _ _ (eq-eqb k.style style same) (le-leb k.row row begun)
@@ -62,7 +61,9 @@ style_at-undropped c row style f key is not =
     ap (λ b. cond (style == 0 || b) clear (keyed_pixel (key_at c row style) (slice_get c.styles style))) not
     ∙ ap (λ k. cond (style == 0 || false) clear (keyed_pixel k (slice_get c.styles style))) is
 
-keyed_pixel-set : (styles : List Style) (style : ℕ) (key : StyleKeyRecord) → style < length styles → keyed_pixel (Some key) (slice_get styles style) ≡ pixel_of key.to
+keyed_pixel-set :
+    (styles : List Style) (style : ℕ) (key : StyleKeyRecord) → style < length styles
+    → keyed_pixel (Some key) (slice_get styles style) ≡ pixel_of key.to
 keyed_pixel-set [] style key lt = absurd (omega arith)
 keyed_pixel-set (s ∷ styles) zero key lt = refl
 keyed_pixel-set (s ∷ styles) (suc style) key lt = keyed_pixel-set styles style key (omega arith)
@@ -83,7 +84,9 @@ style_at-keyed c row (suc style) f key is least lt not =
     style_at-undropped c row (suc style) f (Some key) is not
     ∙ (not_zero style (keyed_pixel (Some key) (slice_get c.styles (suc style))) ∙ keyed_pixel-set c.styles (suc style) key lt)
 
-pub style_at-written : (c : ColoursRecord) (row style : ℕ) (f : Dropped) → key_at c row style ≡ None → f style ≡ false → style_at c row f style ≡ as_written c style
+pub style_at-written :
+    (c : ColoursRecord) (row style : ℕ) (f : Dropped) → key_at c row style ≡ None → f style ≡ false
+    → style_at c row f style ≡ as_written c style
 unfolding as_written
 style_at-written c row zero f is not = style_at-undropped c row zero f None is not
 style_at-written c row (suc style) f is not =

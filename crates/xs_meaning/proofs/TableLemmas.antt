@@ -6,11 +6,12 @@ use Rattle.xs_scene.specs.declared.seen.Seen.{Seen}
 use Rattle.xs_scene.specs.declared.node.Ref.{Ref}
 use Rattle.xs_scene.specs.declared.node.Node.{Node}
 use Rattle.xs_scene.specs.Records.{SceneRecord}
-use Rattle.xs_meaning.specs.Drawings.{Pictures}
+use Rattle.xs_pixel.specs.Picture.{Pictures}
 use Rattle.xs_meaning.specs.Ends.{AllEnd}
 use Rattle.xs_meaning.specs.Palettes.{Dropped}
-use Rattle.xs_meaning.specs.Points.{Point, minus}
-use Rattle.xs_meaning.specs.Rows.{Image, by_points}
+use Rattle.xs_pixel.specs.Points.{Point, minus}
+use Rattle.xs_pixel.specs.Images.{Image}
+use Rattle.xs_meaning.specs.RowValues.{by_points}
 use Rattle.xs_meaning.specs.Tables.{Sees, HasNode, place_at, column_value, node_value, ColumnsFollow, NodesFollow, RowsFollow, stacked}
 use Rattle.xs_meaning.specs.Walk.{sheet_at, terminals_of, seen_by, listed_by, node_by, above_by, composed_by, whole_row, whole_input}
 use Rattle.xs_meaning.proofs.Depth.{whole_input-column, whole_input-node, whole_row-row}

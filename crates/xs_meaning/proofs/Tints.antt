@@ -1,11 +1,10 @@
 -- A tint gives each style the pixel of the colouring that it was made by
 use Rattle.std.proofs.Common.{ℕ, zero, suc, ◌≡◌, ◌<◌, ◌≤◌, ◌==◌, ◌||◌, refl, sym, ap, ◌∙◌, true, List, [], ◌∷◌, slice_get, get_or, length, arith, ⊎_elim}
-use Rattle.std.proofs.lemmas.Bool.{cases_lt, cond_both}
+use Rattle.std.proofs.lemmas.Bool.{cases_lt, cond_both, and_parts}
 use Rattle.std.proofs.lemmas.List.{get_or_past, length-map}
 use Rattle.std.proofs.lemmas.List.FromFn.{length-map-range_with_len, get_or-map-range_with_len}
 use Rattle.std.proofs.lemmas.Option.{slice_get_past}
 use mathlib.Core.Path.{fun_ext, ap₂}
-use Rattle.xs_meaning.proofs.Lists.{both_true}
 use Rattle.xs_pixel.specs.Channels.{Channels, clear}
 use Rattle.xs_palette.specs.Styles.{written}
 use Rattle.xs_scene.specs.Records.{ColoursRecord}
@@ -14,12 +13,12 @@ use Rattle.xs_meaning.specs.Palettes.{Colouring, Dropped, as_written, style_at, 
 pub same_pixel_true : (p q : Channels) → same_pixel p q ≡ true → p ≡ q
 same_pixel_true p q same = grind arith
 
-pub same_pixels_true : (ps qs : List Channels) → same_pixels ps qs ≡ true → ps ≡ qs
+same_pixels_true : (ps qs : List Channels) → same_pixels ps qs ≡ true → ps ≡ qs
 same_pixels_true [] [] same = refl
 same_pixels_true [] (q ∷ qs) same = cc
 same_pixels_true (p ∷ ps) [] same = cc
 same_pixels_true (p ∷ ps) (q ∷ qs) same =
-    let both = both_true (same_pixel p q) (same_pixels ps qs) same in
+    let both = and_parts (same_pixel p q) (same_pixels ps qs) same in
     ap₂ (λ x xs. x ∷ xs) (same_pixel_true p q both.0) (same_pixels_true ps qs both.1)
 
 slice_index_or-before : (p : Channels) (ps : List Channels) (i : ℕ) → get_or (before p ps) i clear ≡ get_or (p ∷ ps) i clear
@@ -92,7 +91,7 @@ pub tint_style-tint_at :
 tint_style-tint_at c row f =
     fun_ext (tint_style-tint_by c (style_at c row f) (style_at-zero c row f) (style_at-past c row f))
 
-pub tint_style-as_written : (c : ColoursRecord) → tint_style (tint_by c (as_written c)) ≡ as_written c
+tint_style-as_written : (c : ColoursRecord) → tint_style (tint_by c (as_written c)) ≡ as_written c
 tint_style-as_written c = fun_ext (tint_style-tint_by c (as_written c) (as_written-zero c) (as_written-past c))
 
 pub get_or-tint_at : (c : ColoursRecord) (row : ℕ) (f : Dropped) (style : ℕ) → get_or (tint_at c row f) style clear ≡ style_at c row f style

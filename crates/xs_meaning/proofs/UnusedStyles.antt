@@ -9,10 +9,13 @@ use Rattle.xs_cm32.specs.Word.{ink_of, paint_of, colour_of, colour_under}
 use Rattle.xs_scene.specs.declared.node.Ref.{Ref}
 use Rattle.xs_scene.specs.Records.{SceneRecord, ColoursRecord}
 use Rattle.xs_meaning.specs.Agreement.{EachStyleUsed, AgreeOnWords, UsesNoneOf, UsesOnly}
-use Rattle.xs_meaning.specs.Drawings.{Pictures, colours_of, number_of, words_in, drawing_pixel, colouring_at}
-use Rattle.xs_meaning.specs.Palettes.{Colouring, Dropped, deleting, keeping, is_listed, style_at, keyed_pixel, key_at}
-use Rattle.xs_meaning.specs.Points.{minus, Point}
-use Rattle.xs_meaning.specs.Rows.{by_points, blurred, row_under, value_under}
+use Rattle.xs_pixel.specs.Picture.{Pictures, words_in}
+use Rattle.xs_meaning.specs.Drawings.{colours_of, number_of, drawing_pixel, colouring_at}
+use Rattle.xs_meaning.specs.Palettes.{Colouring, Dropped, deleting, keeping, style_at, keyed_pixel, key_at}
+use Rattle.xs_base.specs.Listed.{is_listed}
+use Rattle.xs_pixel.specs.Points.{minus, Point}
+use Rattle.xs_meaning.specs.RowValues.{by_points, row_under, value_under}
+use Rattle.xs_pixel.specs.Images.{blurred}
 use Rattle.xs_meaning.specs.Walk.{sheet_at}
 use Rattle.xs_meaning.proofs.Agree.{Agrees, whole_row-agrees, whole_input-agrees, meets-any}
 use Rattle.std.proofs.Math.Bool.{or-false, and-false}
@@ -41,7 +44,7 @@ style_at-dropped c row f g style same =
     ap (λ b. cond (style == 0 || b) clear (keyed_pixel (key_at c row style) (slice_get c.styles style))) same
 
 -- filters that agree on the styles of a drawing's words give it the same pixels
-pub drawing_pixel-filters :
+drawing_pixel-filters :
     (s : SceneRecord) (pictures : Pictures) (f g : Dropped) → AgreeOnWords pictures f g
     → (d row : ℕ) (p : Point)
     → drawing_pixel (pictures d) (colouring_at s d row f) p ≡ drawing_pixel (pictures d) (colouring_at s d row g) p

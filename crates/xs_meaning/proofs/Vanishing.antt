@@ -7,11 +7,12 @@ use Rattle.xs_pixel.specs.declared.operation.Op.{Op}
 use Rattle.xs_pixel.specs.declared.operation.Op.TheVariants.{Over, Add, Sub, Mult, Min, Max, MatteIn, MatteOut}
 use Rattle.xs_pixel.proofs.Products.{product-zero_left, product-zero_right, product-opaque}
 use Rattle.xs_scene.specs.Records.{SceneRecord, ColoursRecord}
-use Rattle.xs_meaning.specs.Drawings.{Pictures, colours_of, colouring_at, drawing_pixel}
+use Rattle.xs_pixel.specs.Picture.{Pictures}
+use Rattle.xs_meaning.specs.Drawings.{colours_of, colouring_at, drawing_pixel}
 use Rattle.xs_meaning.specs.Expressions.{Expr, Clear, Leaf, Tinted, Card, Pair, Blur, is_clear, staying, with_clear_first, with_clear_second, pair_staying, pair_of, blur_of, card_of, leaf_by, value_of}
 use Rattle.xs_meaning.specs.Palettes.{Dropped, is_as_written, is_clear_pixel, as_written, style_at, tint_at}
-use Rattle.xs_meaning.specs.Points.{Point, minus}
-use Rattle.xs_meaning.specs.Rows.{blurred}
+use Rattle.xs_pixel.specs.Points.{Point, minus}
+use Rattle.xs_pixel.specs.Images.{blurred}
 use Rattle.xs_meaning.proofs.Blurs.{blurred-clear}
 use Rattle.xs_meaning.proofs.Tints.{same_pixel_true, as_written-is_as_written, tint_style-tint_at}
 

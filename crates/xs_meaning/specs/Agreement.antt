@@ -1,16 +1,14 @@
 use Rattle.std.specs.Prelude.{◌≡◌, ℕ, true, false, List, slice_index_or, All, IfSome, Contains}
 use Rattle.xs_cm32.specs.Word.{ink_of, paint_of}
 use Rattle.xs_scene.specs.Records.{SceneRecord, ColoursRecord}
-use Rattle.xs_meaning.specs.Drawings.{Pictures, words_in, colours_of, no_colours}
-use Rattle.xs_meaning.specs.Palettes.{Dropped, is_listed, style_at, as_written}
+use Rattle.xs_pixel.specs.Picture.{Pictures, EachWord}
+use Rattle.xs_meaning.specs.Drawings.{colours_of, no_colours}
+use Rattle.xs_meaning.specs.Palettes.{Dropped, style_at, as_written}
+use Rattle.xs_base.specs.Listed.{is_listed}
 
 -- two sets of pictures agree on these drawings
 abbrev pub AgreeOn : Pictures → Pictures → List ℕ → Type 0
 AgreeOn pictures others drawings = (d : ℕ) → Contains drawings d → pictures d ≡ others d
-
--- P holds of each word of the pictures, and of its ink and its paint
-abbrev pub EachWord : (ℕ → Type 0) → Pictures → Type 0
-EachWord P pictures = (d : ℕ) → IfSome (pictures d) (λ q. All P (words_in q.content))
 
 abbrev pub EachStyleUsed : (ℕ → Type 0) → Pictures → Type 0
 EachStyleUsed P pictures = EachWord (λ w. P (ink_of w) × P (paint_of w)) pictures

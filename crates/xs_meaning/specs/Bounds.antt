@@ -1,6 +1,6 @@
 use Rattle.std.specs.Prelude.{ℕ, pos, neg_ℤ, ◌≤ℤ◌}
 use Rattle.xs_meaning.specs.Expressions.{Expr, Clear, Leaf, Tinted, Card, Pair, Blur}
-use Rattle.xs_meaning.specs.Points.{Point}
+use Rattle.xs_pixel.specs.Points.{Point}
 
 -- both coordinates are from -n to n
 pub record IsWithin (n : ℕ) (p : Point) : Type 0 where

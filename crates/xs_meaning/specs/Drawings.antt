@@ -1,16 +1,12 @@
-use Rattle.std.specs.Prelude.{ℕ, ◌+◌, ◌-◌, nat_lt, Option, Some, None, List, [], ◌∷◌, map, take, length, sum_by, slice_index_or, option_map, option_and_then, All, IfSome, if◌then◌else◌}
-use Rattle.xs_pixel.specs.Channels.{Channels, IsPixel, clear}
-use Rattle.xs_pixel.specs.Picture.{Picture, Content, Colours, Words, at_point}
+use Rattle.std.specs.Prelude.{ℕ, ◌+◌, ◌-◌, nat_lt, Option, Some, None, List, [], ◌∷◌, map, take, length, sum_by, slice_index_or, option_map, option_and_then, if◌then◌else◌}
+use Rattle.xs_pixel.specs.Channels.{Channels, clear}
+use Rattle.xs_pixel.specs.Picture.{Picture, Pictures, pixels_in, words_in, at_point}
 use Rattle.xs_scene.specs.declared.level.Kind.{Kind}
 use Rattle.xs_scene.specs.declared.level.Kind.TheVariants.{Colour, Cm32}
 use Rattle.xs_scene.specs.Records.{SceneRecord, LevelRecord, ColoursRecord}
 use Rattle.xs_cm32.specs.Word.{colour_under}
-use Rattle.xs_meaning.specs.Points.{Point}
+use Rattle.xs_pixel.specs.Points.{Point}
 use Rattle.xs_meaning.specs.Palettes.{Colouring, Dropped, style_at, as_written}
-
--- the picture of each drawing, by its number, if its file is there
-abbrev pub Pictures : Type 0
-Pictures = ℕ → Option Picture
 
 -- the number of a drawing: levels in order, then their drawings in order
 abbrev pub number_of : List LevelRecord → ℕ → ℕ → ℕ
@@ -33,15 +29,6 @@ palette_of palettes (Cm32 palette) = Some (slice_index_or palettes palette no_co
 unfoldable pub colours_of : SceneRecord → ℕ → Option ColoursRecord
 colours_of s d = option_and_then (λ l. palette_of s.palettes l.kind) (level_of s.levels d)
 
--- the pixels of a colour file, the words of a CM32 file
-abbrev pub pixels_in : Content → List Channels
-pixels_in (Colours pixels) = pixels
-pixels_in (Words words) = []
-
-abbrev pub words_in : Content → List ℕ
-words_in (Colours pixels) = []
-words_in (Words words) = words
-
 -- the pixel of a drawing at a point: a colour drawing has the pixels of its file, another one its
 -- words under a colouring. It is clear outside its box, without a picture, and where its file is of
 -- the other kind
@@ -57,11 +44,3 @@ written_colouring s d = option_map as_written (colours_of s d)
 
 abbrev pub colouring_at : SceneRecord → ℕ → ℕ → Dropped → Option Colouring
 colouring_at s d row f = option_map (λ c. style_at c row f) (colours_of s d)
-
-abbrev pub HoldsPixels : Content → Type 0
-HoldsPixels (Colours pixels) = All IsPixel pixels
-HoldsPixels (Words words) = Unit {0}
-
--- the pixels of colour files are pixels
-abbrev pub ArePixels : Pictures → Type 0
-ArePixels pictures = (d : ℕ) → IfSome (pictures d) (λ q. HoldsPixels q.content)

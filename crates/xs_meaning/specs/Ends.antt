@@ -1,4 +1,5 @@
 use Rattle.std.specs.Prelude.{ℕ, zero, suc, ◌<◌, Option, Some, None, List, length, slice_get, All}
+use Rattle.xs_base.specs.declared.limits.TheConstants.{DEEPEST_NEST, LONGEST_PEG_CHAIN}
 use Rattle.xs_scene.specs.declared.column.Shown.{Shown}
 use Rattle.xs_scene.specs.declared.column.Shown.TheVariants.{Drawing, Sheet}
 use Rattle.xs_scene.specs.declared.seen.Seen.{Seen}
@@ -51,9 +52,9 @@ PegsEnd k zero (Some i) = ⊥
 PegsEnd k (suc m) (Some i) = PegsEnd k m (peg_at k i).parent
 
 -- what checking finds of a scene's sheets: nothing leads back to itself, a way through nodes is no
--- longer than the sheet has nodes, sheets are nested at most 16 deep and pegs at most 64
+-- longer than the sheet has nodes, sheets are nested no deeper than `DEEPEST_NEST` and chains of pegs no longer than `LONGEST_PEG_CHAIN`
 pub record AllEnd (sheets : List SheetRecord) : Type 0 where
   pub nodes :
       (k n : ℕ) → n < length (sheet_at sheets k).nodes → NodesEnd (sheet_at sheets k) (length (sheet_at sheets k).nodes) (ToNode n)
-  pub sheets_end : (k : ℕ) → SheetsEnd sheets 16 k
-  pub pegs : (k i : ℕ) → i < length (sheet_at sheets k).pegs → PegsEnd (sheet_at sheets k) 64 (Some i)
+  pub sheets_end : (k : ℕ) → SheetsEnd sheets DEEPEST_NEST k
+  pub pegs : (k i : ℕ) → i < length (sheet_at sheets k).pegs → PegsEnd (sheet_at sheets k) LONGEST_PEG_CHAIN (Some i)

@@ -1,15 +1,17 @@
-use Rattle.std.specs.Prelude.{ℕ, ◌+◌, max, Bool, true, false, Option, Some, None, List, [], ◌∷◌, ◌++◌, if◌then◌else◌}
+use Rattle.std.specs.Prelude.{ℕ, ◌+◌, max, Bool, true, false, Option, Some, None, List, [], ◌∷◌, ◌++◌, flat_map, if◌then◌else◌}
 use Rattle.xs_pixel.specs.Channels.{Channels, clear}
 use Rattle.xs_pixel.specs.Operations.{apply_of}
 use Rattle.xs_pixel.specs.declared.operation.Op.{Op}
 use Rattle.xs_pixel.specs.declared.operation.Op.TheVariants.{Over, Add, Sub, Mult, Min, Max, MatteIn, MatteOut}
 use Rattle.xs_scene.specs.declared.node.Ref.{Ref}
 use Rattle.xs_scene.specs.Records.{SceneRecord, ColoursRecord}
-use Rattle.xs_meaning.specs.Drawings.{Pictures, number_of, colours_of, drawing_pixel, written_colouring}
+use Rattle.xs_pixel.specs.Picture.{Pictures}
+use Rattle.xs_meaning.specs.Drawings.{number_of, colours_of, drawing_pixel, written_colouring}
 use Rattle.xs_meaning.specs.Palettes.{Dropped, none_dropped, pixel_of, tint_at, tint_style, is_as_written, is_clear_pixel}
-use Rattle.xs_meaning.specs.Points.{Point, plus, minus, opposite}
-use Rattle.xs_meaning.specs.Rows.{Image, blurred, camera_at}
-use Rattle.xs_meaning.specs.Walk.{Reading, whole_row, whole_input}
+use Rattle.xs_pixel.specs.Points.{Point, plus, minus, opposite}
+use Rattle.xs_pixel.specs.Images.{Image, blurred}
+use Rattle.xs_meaning.specs.RowValues.{camera_at}
+use Rattle.xs_meaning.specs.Walk.{Interpretation, whole_row, whole_input}
 
 -- what a row is composed of, with offsets carried down to the drawings: nothing; a drawing at an
 -- offset, as its palette is written or under a tint; one pixel everywhere; two expressions joined by
@@ -84,7 +86,7 @@ leaf_by None d row f at = Leaf d at
 leaf_by (Some c) d row f at = if is_as_written c row f then Leaf d at else Tinted d at (tint_at c row f)
 
 -- the scene as expressions, by the offset under which they stand
-unfoldable pub by_offsets : SceneRecord → Reading (Point → Expr)
+unfoldable pub by_offsets : SceneRecord → Interpretation (Point → Expr)
 by_offsets s =
     record {
       nothing = λ o. Clear;
@@ -126,6 +128,10 @@ drawings_of (Tinted d at tint) = d ∷ []
 drawings_of (Card pixel) = []
 drawings_of (Pair op a b) = drawings_of a ++ drawings_of b
 drawings_of (Blur n a) = drawings_of a
+
+-- the drawings that the expressions of rows have, as a walk over them meets them
+abbrev pub needed : SceneRecord → List ℕ → List ℕ
+needed s rows = flat_map (λ row. drawings_of (root_of s row)) rows
 
 -- the pixel of an expression at a point
 unfoldable pub value_of : SceneRecord → Pictures → Expr → Image

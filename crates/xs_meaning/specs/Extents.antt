@@ -1,7 +1,7 @@
 use Rattle.std.specs.Prelude.{ℕ, ◌+◌, max, Option, Some, None, unwrap_or, is_none, if◌then◌else◌}
 use Rattle.xs_meaning.specs.Expressions.{Expr, Clear, Staying, Both, First, Second, Neither, staying, reach_of}
 use Rattle.xs_meaning.specs.Palettes.{pixel_of, is_clear_pixel}
-use Rattle.xs_meaning.specs.Walk.{Reading}
+use Rattle.xs_meaning.specs.Walk.{Interpretation}
 
 -- how far beyond a point an expression looks, and None where it is clear
 abbrev pub extent_of : Expr → Option ℕ
@@ -20,7 +20,7 @@ wider n None = None
 wider n (Some a) = Some (n + a)
 
 -- the scene as extents. These know no offset
-unfoldable pub by_extent : Reading (Option ℕ)
+unfoldable pub by_extent : Interpretation (Option ℕ)
 by_extent =
     record {
       nothing = None;

@@ -1,4 +1,3 @@
-pub mod Points
 pub mod Keys
 pub mod Inputs
 pub mod Palettes
@@ -6,7 +5,7 @@ pub mod Drawings
 pub mod Cells
 pub mod Places
 pub mod Walk
-pub mod Rows
+pub mod RowValues
 pub mod Expressions
 pub mod Extents
 pub mod Chosen
@@ -14,5 +13,4 @@ pub mod Agreement
 pub mod Bounds
 pub mod Ends
 pub mod Tables
-pub mod States
 pub mod Samples

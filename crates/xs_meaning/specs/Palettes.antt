@@ -1,11 +1,13 @@
 use Rattle.std.specs.Prelude.{ℕ, ◌==◌, nat_le, nat_lt, Bool, true, false, not, ◌&&◌, ◌||◌, Option, List, [], ◌∷◌, map, filter, length, slice_get, if◌then◌else◌}
-use Rattle.std.specs.List.{list_any, range_with_len}
+use Rattle.xs_base.specs.declared.limits.TheConstants.{STYLE_NUMBERS}
+use Rattle.std.specs.List.{range_with_len}
 use Rattle.std.specs.Option.{option_map_or}
 use Rattle.xs_pixel.specs.Channels.{Channels, clear}
 use Rattle.xs_pixel.specs.Operations.{premultiplied}
 use Rattle.xs_pixel.specs.declared.style.Style.{Style}
 use Rattle.xs_palette.specs.Styles.{style_of, written}
 use Rattle.xs_scene.specs.Records.{ColoursRecord, StyleKeyRecord}
+use Rattle.xs_base.specs.Listed.{is_listed}
 use Rattle.xs_meaning.specs.Keys.{latest}
 
 -- the pixel of each style of a palette, by its number
@@ -19,16 +21,13 @@ Dropped = ℕ → Bool
 abbrev pub none_dropped : Dropped
 none_dropped style = false
 
-abbrev pub is_listed : List ℕ → ℕ → Bool
-is_listed styles style = list_any (λ listed. listed == style) styles
-
 -- the dropped styles, and each listed one besides
 abbrev pub deleting : List ℕ → Dropped → Dropped
 deleting styles f style = f style || is_listed styles style
 
--- the dropped styles, and besides each style below 4096 that is not listed
+-- the dropped styles, and besides each style number that is not listed
 abbrev pub keeping : List ℕ → Dropped → Dropped
-keeping styles f style = f style || (nat_lt style 4096 && not (is_listed styles style))
+keeping styles f style = f style || (nat_lt style STYLE_NUMBERS && not (is_listed styles style))
 
 abbrev pub pixel_of : Style → Channels
 pixel_of style = premultiplied style.r style.g style.b style.a

@@ -1,8 +1,9 @@
 use Rattle.std.specs.Prelude.{ℕ, zero, suc, ◌-◌, nat_le, nat_lt, Option, Some, None, ℤ, pos, ◌+ℤ◌, ◌-ℤ◌, ◌*ℤ◌, ◌≤ℤ◌, ◌⊎◌, List, [], filter, slice_index_or, if◌then◌else◌}
+use Rattle.xs_base.specs.declared.limits.TheConstants.{LONGEST_PEG_CHAIN}
 use Rattle.std.specs.Int.{int_div_euclid}
 use Rattle.xs_scene.specs.Records.{PegRecord, PegKeyRecord, SheetRecord}
 use Rattle.xs_meaning.specs.Keys.{latest, earliest}
-use Rattle.xs_meaning.specs.Points.{Point, point, origin, plus}
+use Rattle.xs_pixel.specs.Points.{Point, point, origin, plus}
 
 -- the key in force at a row: of those at or before it, the one with the greatest row
 abbrev pub key_in_force : List PegKeyRecord → ℕ → Option PegKeyRecord
@@ -52,6 +53,6 @@ place_up (suc n) k (Some i) row =
     plus (own_offset (peg_at k i).keys row) (place_up n k (peg_at k i).parent row)
 
 -- the place of a peg at a row: the sum of its own offset and those of all its parents. A chain has at
--- most 64 pegs. Without a peg it is (0, 0)
+-- most `LONGEST_PEG_CHAIN` pegs. Without a peg it is (0, 0)
 abbrev pub place_of : SheetRecord → Option ℕ → ℕ → Point
-place_of k peg row = place_up 64 k peg row
+place_of k peg row = place_up LONGEST_PEG_CHAIN k peg row

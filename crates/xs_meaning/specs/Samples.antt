@@ -1,7 +1,7 @@
 -- Small scenes and pictures for the examples
 use Rattle.std.specs.Prelude.{ℕ, ◌+◌, true, false, Option, Some, None, ℤ, pos, negsuc, List, [], ◌∷◌, slice_get}
 use Rattle.xs_pixel.specs.Channels.{Channels, channels}
-use Rattle.xs_pixel.specs.Picture.{Picture, Colours, Words}
+use Rattle.xs_pixel.specs.Picture.{Picture, Pixels, Words}
 use Rattle.xs_pixel.specs.declared.operation.Op.TheVariants.{Over}
 use Rattle.xs_pixel.specs.declared.style.Style.{Style}
 use Rattle.xs_scene.specs.declared.column.Shown.TheVariants.{Drawing, Sheet}
@@ -11,7 +11,8 @@ use Rattle.xs_scene.specs.declared.node.Ref.TheVariants.{Column as ToColumn, Nod
 use Rattle.xs_scene.specs.declared.node.Node.{Node}
 use Rattle.xs_scene.specs.declared.node.Node.TheVariants.{Pair, Card, Shuffle, Blur, Keep, Delete}
 use Rattle.xs_scene.specs.Records.{StyleKeyRecord, PegKeyRecord, PegRecord, ExposureRecord, ColumnRecord, SheetRecord, SceneRecord}
-use Rattle.xs_meaning.specs.Drawings.{Pictures, no_colours}
+use Rattle.xs_pixel.specs.Picture.{Pictures}
+use Rattle.xs_meaning.specs.Drawings.{no_colours}
 
 abbrev pub style : ℕ → ℕ → ℕ → ℕ → Style
 style r g b a = record { r = r; g = g; b = b; a = a }
@@ -19,7 +20,7 @@ style r g b a = record { r = r; g = g; b = b; a = a }
 -- pictures of one pixel or word at the point (0, 0), by drawing number
 
 abbrev pub one_pixel : Channels → Picture
-one_pixel p = record { x0 = pos 0; y0 = pos 0; w = 1; h = 1; content = Colours (p ∷ []); coloured = p ∷ [] }
+one_pixel p = record { x0 = pos 0; y0 = pos 0; w = 1; h = 1; content = Pixels (p ∷ []); coloured = p ∷ [] }
 
 abbrev pub one_word : ℕ → Picture
 one_word w = record { x0 = pos 0; y0 = pos 0; w = 1; h = 1; content = Words (w ∷ []); coloured = [] }
@@ -53,7 +54,7 @@ lacking_ink d = slice_get (one_word 0x00500200 ∷ []) d
 abbrev pub wide : Pictures
 wide d =
     slice_get
-    (record { x0 = pos 4; y0 = pos 7; w = 2; h = 1; content = Colours (dark ∷ blue ∷ []); coloured = [] } ∷ []) d
+    (record { x0 = pos 4; y0 = pos 7; w = 2; h = 1; content = Pixels (dark ∷ blue ∷ []); coloured = [] } ∷ []) d
 
 -- drawings 0 and 1 have a pixel, drawing 2 a word
 abbrev pub mixed_kinds : Pictures

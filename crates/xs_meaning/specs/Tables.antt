@@ -11,11 +11,13 @@ use Rattle.xs_scene.specs.declared.node.Node.{Node}
 use Rattle.xs_scene.specs.declared.node.Node.TheVariants.{Pair, Card, Shuffle, Blur, Keep, Delete}
 use Rattle.xs_scene.specs.Records.{SceneRecord}
 use Rattle.xs_meaning.specs.Cells.{cell_at}
-use Rattle.xs_meaning.specs.Drawings.{Pictures, number_of, drawing_pixel, colouring_at}
+use Rattle.xs_pixel.specs.Picture.{Pictures}
+use Rattle.xs_meaning.specs.Drawings.{number_of, drawing_pixel, colouring_at}
 use Rattle.xs_meaning.specs.Palettes.{Dropped, keeping, deleting, pixel_of}
 use Rattle.xs_meaning.specs.Places.{place_of}
-use Rattle.xs_meaning.specs.Points.{Point, minus}
-use Rattle.xs_meaning.specs.Rows.{Image, blurred, row_under, value_under}
+use Rattle.xs_pixel.specs.Points.{Point, minus}
+use Rattle.xs_pixel.specs.Images.{Image, blurred}
+use Rattle.xs_meaning.specs.RowValues.{row_under, value_under}
 use Rattle.xs_meaning.specs.Walk.{sheet_at, column_at, terminals_of}
 
 -- what a column of a sheet sees at a row, and which node a sheet has by a number

@@ -1,4 +1,5 @@
 use Rattle.std.specs.Prelude.{ℕ, zero, suc, ◌-◌, false, not, Option, Some, None, List, [], ◌∷◌, map, filter, length, slice_get, slice_index_or}
+use Rattle.xs_base.specs.declared.limits.TheConstants.{DEEPEST_NEST}
 use Rattle.std.specs.List.{enumerate_from}
 use Rattle.xs_pixel.specs.declared.operation.Op.{Op}
 use Rattle.xs_pixel.specs.declared.operation.Op.TheVariants.{Over}
@@ -13,11 +14,11 @@ use Rattle.xs_scene.specs.Records.{SheetRecord, ColumnRecord}
 use Rattle.xs_meaning.specs.Cells.{cell_at}
 use Rattle.xs_meaning.specs.Palettes.{Dropped, keeping, deleting}
 use Rattle.xs_meaning.specs.Places.{place_of}
-use Rattle.xs_meaning.specs.Points.{Point}
+use Rattle.xs_pixel.specs.Points.{Point}
 
 -- what the walk through a scene is read as: an answer for each thing that it meets. A drawing has its
 -- level and index, the row of the sheet in which it stands, and the styles dropped on the way to it
-pub record Reading (A : Type 0) : Type 0 where
+pub record Interpretation (A : Type 0) : Type 0 where
   pub nothing : A
   pub drawing : ℕ → ℕ → ℕ → Dropped → A
   pub moved : Point → A → A
@@ -26,12 +27,12 @@ pub record Reading (A : Type 0) : Type 0 where
   pub blur : ℕ → A → A
 
 -- the answers for the rows of sheets, by sheet, row and dropped styles
-abbrev pub Rows : Type 0 → Type 0
-Rows A = ℕ → ℕ → Dropped → A
+abbrev pub RowAnswers : Type 0 → Type 0
+RowAnswers A = ℕ → ℕ → Dropped → A
 
 -- the answers for the columns and nodes of a sheet, by row and dropped styles
-abbrev pub Inputs : Type 0 → Type 0
-Inputs A = Ref → ℕ → Dropped → A
+abbrev pub InputAnswers : Type 0 → Type 0
+InputAnswers A = Ref → ℕ → Dropped → A
 
 abbrev pub no_sheet : SheetRecord
 no_sheet = record { pegs = []; columns = []; nodes = []; out = Some [] }
@@ -55,23 +56,23 @@ unfoldable pub terminals_of : SheetRecord → List Ref
 terminals_of k = terminals_by k.out k.columns
 
 -- what a column sees
-abbrev pub seen_by : {A : Type 0} → Reading A → Rows A → Seen → ℕ → Dropped → A
+abbrev pub seen_by : {A : Type 0} → Interpretation A → RowAnswers A → Seen → ℕ → Dropped → A
 seen_by R rows Empty row f = R.nothing
 seen_by R rows (Drawing level index) row f = R.drawing level index row f
 seen_by R rows (Row sheet inner) row f = rows sheet inner f
 
 -- a column: what it sees, moved by the place of its peg
-abbrev pub column_by : {A : Type 0} → Reading A → Rows A → SheetRecord → ℕ → ℕ → Dropped → A
+abbrev pub column_by : {A : Type 0} → Interpretation A → RowAnswers A → SheetRecord → ℕ → ℕ → Dropped → A
 column_by R rows k c row f =
     R.moved (place_of k (column_at k c).peg row) (seen_by R rows (cell_at (column_at k c) row) row f)
 
 -- a shuffle's input at the listed row, and nothing past the list
-abbrev pub listed_by : {A : Type 0} → Reading A → (ℕ → Dropped → A) → Option ℕ → Dropped → A
+abbrev pub listed_by : {A : Type 0} → Interpretation A → (ℕ → Dropped → A) → Option ℕ → Dropped → A
 listed_by R input None f = R.nothing
 listed_by R input (Some row) f = input row f
 
 -- a node over the answers for its inputs
-abbrev pub node_by : {A : Type 0} → Reading A → Inputs A → Option Node → ℕ → Dropped → A
+abbrev pub node_by : {A : Type 0} → Interpretation A → InputAnswers A → Option Node → ℕ → Dropped → A
 node_by R val None row f = R.nothing
 node_by R val (Some (Pair op first second)) row f = R.pair op (val first row f) (val second row f)
 node_by R val (Some (Card style)) row f = R.card style
@@ -81,7 +82,7 @@ node_by R val (Some (Keep input styles)) row f = val input row (keeping styles f
 node_by R val (Some (Delete input styles)) row f = val input row (deleting styles f)
 
 -- a column or node of a sheet, through at most so many of its columns and nodes
-unfoldable pub walk : {A : Type 0} → Reading A → Rows A → SheetRecord → ℕ → Inputs A
+unfoldable pub walk : {A : Type 0} → Interpretation A → RowAnswers A → SheetRecord → ℕ → InputAnswers A
 walk R rows k zero n row f = R.nothing
 walk R rows k (suc m) (ToColumn c) row f = column_by R rows k c row f
 walk R rows k (suc m) (ToNode n) row f = node_by R (walk R rows k m) (slice_get k.nodes n) row f
@@ -91,30 +92,30 @@ abbrev pub depth_of : SheetRecord → ℕ
 depth_of k = suc (length k.nodes)
 
 -- each terminal over what there was below it
-abbrev pub above_by : {A : Type 0} → Reading A → A → List A → A
+abbrev pub above_by : {A : Type 0} → Interpretation A → A → List A → A
 above_by R was [] = was
 above_by R was (t ∷ ts) = above_by R (R.pair Over t was) ts
 
-abbrev pub composed_by : {A : Type 0} → Reading A → List A → A
+abbrev pub composed_by : {A : Type 0} → Interpretation A → List A → A
 composed_by R [] = R.nothing
 composed_by R (t ∷ ts) = above_by R t ts
 
 -- a row of a sheet, over the answers for its columns and nodes
-abbrev pub row_by : {A : Type 0} → Reading A → Inputs A → SheetRecord → ℕ → Dropped → A
+abbrev pub row_by : {A : Type 0} → Interpretation A → InputAnswers A → SheetRecord → ℕ → Dropped → A
 row_by R val k row f = composed_by R (map (λ t. val t row f) (terminals_of k))
 
 -- a row of a sheet, through at most so many nested sheets
-unfoldable pub row_walk : {A : Type 0} → Reading A → List SheetRecord → ℕ → Rows A
+unfoldable pub row_walk : {A : Type 0} → Interpretation A → List SheetRecord → ℕ → RowAnswers A
 row_walk R sheets zero k row f = R.nothing
 row_walk R sheets (suc d) k row f =
     row_by R (walk R (row_walk R sheets d) (sheet_at sheets k) (depth_of (sheet_at sheets k)))
     (sheet_at sheets k) row f
 
--- a row of a sheet: sheets are nested at most 16 deep
-abbrev pub whole_row : {A : Type 0} → Reading A → List SheetRecord → Rows A
-whole_row R sheets = row_walk R sheets 16
+-- a row of a sheet: sheets are nested no deeper than `DEEPEST_NEST`
+abbrev pub whole_row : {A : Type 0} → Interpretation A → List SheetRecord → RowAnswers A
+whole_row R sheets = row_walk R sheets DEEPEST_NEST
 
 -- a column or node of a sheet
-abbrev pub whole_input : {A : Type 0} → Reading A → List SheetRecord → ℕ → Inputs A
+abbrev pub whole_input : {A : Type 0} → Interpretation A → List SheetRecord → ℕ → InputAnswers A
 whole_input R sheets k =
     walk R (whole_row R sheets) (sheet_at sheets k) (depth_of (sheet_at sheets k))

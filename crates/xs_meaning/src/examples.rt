@@ -1,6 +1,6 @@
 //! Examples of the rules: small scenes and what they show. A definition that says something else than
 //! the rule fails one of them.
-#![tactic(auto, unfolding(xs_pixel::specs::Operations::product, xs_pixel::specs::Picture::at_point, xs_pixel::specs::Picture::place_in_box, xs_cm32::specs::Word::mixed, crate::specs::Palettes::as_written, crate::specs::Palettes::style_at, crate::specs::Palettes::tint_style, crate::specs::Drawings::colours_of, crate::specs::Drawings::drawing_pixel, crate::specs::Cells::cell_at, crate::specs::Places::on_line, crate::specs::Places::own_offset, crate::specs::Places::place_up, crate::specs::Walk::terminals_of, crate::specs::Walk::walk, crate::specs::Walk::row_walk, crate::specs::Rows::blurred, crate::specs::Rows::by_points, crate::specs::Expressions::by_offsets))]
+#![tactic(auto, unfolding(xs_pixel::specs::Operations::product, xs_pixel::specs::Picture::at_point, xs_pixel::specs::Picture::place_in_box, xs_cm32::specs::Word::mixed, crate::specs::Palettes::as_written, crate::specs::Palettes::style_at, crate::specs::Palettes::tint_style, crate::specs::Drawings::colours_of, crate::specs::Drawings::drawing_pixel, crate::specs::Cells::cell_at, crate::specs::Places::on_line, crate::specs::Places::own_offset, crate::specs::Places::place_up, crate::specs::Walk::terminals_of, crate::specs::Walk::walk, crate::specs::Walk::row_walk, xs_pixel::specs::Images::blurred, crate::specs::RowValues::by_points, crate::specs::Expressions::by_offsets))]
 
 ghost use Rattle.std.specs.Prelude.{◌≡◌, Some, None, pos, negsuc, [], ◌∷◌};
 ghost use Rattle.xs_pixel.specs.Channels.{Channels, channels, clear};
@@ -11,8 +11,8 @@ ghost use Rattle.xs_meaning.specs.Ends.{AllEnd};
 ghost use Rattle.xs_meaning.specs.Expressions.{Clear, Leaf, Tinted, Pair, Card, Blur, root_of, reach_of, drawings_of};
 ghost use Rattle.xs_meaning.specs.Inputs.{inputs_of};
 ghost use Rattle.xs_meaning.specs.Places.{place_of};
-ghost use Rattle.xs_meaning.specs.Points.{Point, point, origin};
-ghost use Rattle.xs_meaning.specs.Rows.{frame_pixel};
+ghost use Rattle.xs_pixel.specs.Points.{Point, point, origin};
+ghost use Rattle.xs_meaning.specs.RowValues.{frame_pixel};
 ghost use Rattle.xs_meaning.specs.Samples.{dark, half_red, blue, three_pixels, mixed_word, no_ink, lacking_ink, wide, mixed_kinds, columns_alone, held, held_twice, nested, nested_back, shuffled, pegs, filmed, two_columns, one_off, beside_empty, with_empty, blurs, filtered_nested, painted, through, green_at_two, two_levels, style, every_kind};
 
 /// A drawing is held over the rows of its exposure, and a row without an exposure shows nothing.

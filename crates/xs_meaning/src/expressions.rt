@@ -6,16 +6,15 @@ ghost use Rattle.xs_pixel.specs.Operations.{apply_of};
 ghost use Rattle.xs_pixel.specs.declared.operation.Op.{Op};
 ghost use Rattle.xs_meaning.specs.Agreement.{AgreeOn};
 ghost use Rattle.xs_meaning.specs.Bounds.{IsWithin, LeavesWithin};
-ghost use Rattle.xs_meaning.specs.Drawings.{Pictures};
-ghost use Rattle.xs_meaning.specs.Ends.{AllEnd};
+ghost use Rattle.xs_pixel.specs.Picture.{Pictures};
 ghost use Rattle.xs_meaning.specs.Expressions.{Expr, Clear, value_of, root_of, row_expr, input_expr, drawings_of, pair_of, blur_of, is_clear, reach_of};
 ghost use Rattle.xs_meaning.specs.Extents.{by_extent};
 ghost use Rattle.xs_scene.specs.InRange.{IsInRange};
-ghost use Rattle.xs_meaning.specs.Drawings.{ArePixels};
+ghost use Rattle.xs_pixel.specs.Picture.{ArePixels};
 ghost use Rattle.xs_meaning.specs.Palettes.{Dropped};
-ghost use Rattle.xs_meaning.specs.Points.{Point, minus};
-ghost use Rattle.xs_meaning.specs.Rows.{row_under, value_under, frame_pixel, blurred};
-ghost use Rattle.xs_meaning.specs.States.{State, expr_of, step_of};
+ghost use Rattle.xs_pixel.specs.Points.{Point, minus};
+ghost use Rattle.xs_meaning.specs.RowValues.{row_under, value_under, frame_pixel};
+ghost use Rattle.xs_pixel.specs.Images.{blurred};
 ghost use Rattle.xs_meaning.specs.Walk.{whole_row, whole_input};
 ghost use Rattle.xs_scene.specs.Records.{SceneRecord};
 ghost use Rattle.xs_scene.specs.declared.node.Ref.{Ref};
@@ -50,13 +49,6 @@ pub fn only_own_drawings_count()
     ensures { (s : SceneRecord) (pictures others : Pictures) → IsInRange s → ArePixels pictures
         → ArePixels others → (row : ℕ) → AgreeOn pictures others (drawings_of (root_of s row))
         → (p : Point) → frame_pixel s pictures row p ≡ frame_pixel s others row p }
-{}
-
-/// The expression of a state is one step of the rules over the expressions of other states, so it is one
-/// function of the sheet, the column, node or row, the row number, the offset and the dropped styles.
-pub fn expression_follows_the_rules()
-    ensures { (s : SceneRecord) → AllEnd s.sheets → (state : State)
-        → expr_of s state ≡ step_of s (expr_of s) state }
 {}
 
 /// A pair from which clear inputs have vanished has the value of the pair; a blur of what is clear is

@@ -1,14 +1,16 @@
 //! Laws of palettes, palette keys and palette filters.
 
 ghost use Rattle.std.specs.Prelude.{◌≡◌, ◌≤◌, ◌<◌, ℕ, true, false, Some, None, List, All, MatchOption, length, slice_index_or};
+ghost use Rattle.xs_base.specs.declared.limits.TheConstants.{STYLE_NUMBERS};
 ghost use Rattle.xs_pixel.specs.Channels.{Channels, clear};
 ghost use Rattle.xs_meaning.specs.Agreement.{AgreeOnWords, UsesNoneOf, UsesOnly, DropsAlike, PalettesAlike};
 ghost use Rattle.xs_meaning.specs.Chosen.{IsStyleKeyInForce};
-ghost use Rattle.xs_meaning.specs.Drawings.{Pictures};
+ghost use Rattle.xs_pixel.specs.Picture.{Pictures};
 ghost use Rattle.xs_meaning.specs.Expressions.{row_expr, input_expr};
-ghost use Rattle.xs_meaning.specs.Palettes.{Dropped, deleting, keeping, is_listed, pixel_of, as_written, key_at, style_at, tint_at, tint_style, without_clear_end};
-ghost use Rattle.xs_meaning.specs.Points.{Point};
-ghost use Rattle.xs_meaning.specs.Rows.{row_under, value_under};
+ghost use Rattle.xs_meaning.specs.Palettes.{Dropped, deleting, keeping, pixel_of, as_written, key_at, style_at, tint_at, tint_style, without_clear_end};
+ghost use Rattle.xs_base.specs.Listed.{is_listed};
+ghost use Rattle.xs_pixel.specs.Points.{Point};
+ghost use Rattle.xs_meaning.specs.RowValues.{row_under, value_under};
 ghost use Rattle.xs_scene.specs.Records.{SceneRecord, ColoursRecord, StyleKeyRecord};
 ghost use Rattle.xs_scene.specs.declared.node.Ref.{Ref};
 
@@ -28,7 +30,7 @@ pub fn palette_keys_are_chosen_by_row()
 {}
 
 /// Delete makes the listed styles clear and leaves every other as it was. Keep leaves the listed styles as
-/// they were and makes every other below 4096 clear: no word has a greater one.
+/// they were and makes every other style number clear.
 pub fn filters_drop_styles()
     ensures deleted { (c : ColoursRecord) (row style : ℕ) (styles : List ℕ) (f : Dropped)
         → is_listed styles style ≡ true → style_at c row (deleting styles f) style ≡ clear }
@@ -37,7 +39,7 @@ pub fn filters_drop_styles()
     ensures kept { (c : ColoursRecord) (row style : ℕ) (styles : List ℕ) (f : Dropped)
         → is_listed styles style ≡ true → style_at c row (keeping styles f) style ≡ style_at c row f style }
     ensures not_kept { (c : ColoursRecord) (row style : ℕ) (styles : List ℕ) (f : Dropped)
-        → style < 4096 → is_listed styles style ≡ false → style_at c row (keeping styles f) style ≡ clear }
+        → style < STYLE_NUMBERS → is_listed styles style ≡ false → style_at c row (keeping styles f) style ≡ clear }
 {}
 
 /// A tint gives each style its pixel, and palettes that give every style the same pixel have one tint.

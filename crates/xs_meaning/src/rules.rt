@@ -1,16 +1,17 @@
 //! Laws of values, rows and places: the rules as they are told, without a bound of depth.
 
 ghost use Rattle.std.specs.Prelude.{◌≡◌, ℕ, false, ◌+◌, ◌-◌, ◌*◌, ◌<◌, ◌≤◌, ℤ, pos, Option, Some, List, length, slice_index_or, All, MatchOption, Contains, find};
+ghost use Rattle.xs_base.specs.declared.limits.TheConstants.{DEEPEST_NEST};
 ghost use Rattle.xs_pixel.specs.Channels.{Channels};
 ghost use Rattle.xs_meaning.specs.Cells.{cell_at, covers, shown_after};
 ghost use Rattle.xs_meaning.specs.Chosen.{IsOnlyAt, IsKeyInForce, IsKeyAfter, HasDistinctRows};
-ghost use Rattle.xs_meaning.specs.Drawings.{Pictures};
+ghost use Rattle.xs_pixel.specs.Picture.{Pictures};
 ghost use Rattle.xs_meaning.specs.Ends.{AllEnd, SeenHas, SheetsEnd};
 ghost use Rattle.xs_meaning.specs.Expressions.{by_offsets, row_expr, root_of};
 ghost use Rattle.xs_meaning.specs.Palettes.{Dropped};
 ghost use Rattle.xs_meaning.specs.Places.{own_offset, on_line, LiesBetween, peg_at, place_of, key_in_force, key_after};
-ghost use Rattle.xs_meaning.specs.Points.{Point, point, plus};
-ghost use Rattle.xs_meaning.specs.Rows.{by_points, row_of, row_under, value_under, camera_at, frame_of, frame_pixel};
+ghost use Rattle.xs_pixel.specs.Points.{Point, point, plus};
+ghost use Rattle.xs_meaning.specs.RowValues.{by_points, row_of, row_under, value_under, camera_at, frame_of, frame_pixel};
 ghost use Rattle.xs_meaning.specs.Tables.{ColumnsFollow, NodesFollow, RowsFollow};
 ghost use Rattle.xs_meaning.specs.Walk.{sheet_at, column_at, whole_row, row_walk, walk, depth_of};
 ghost use Rattle.xs_scene.specs.Records.{SceneRecord, SheetRecord, PegKeyRecord, ColumnRecord, ExposureRecord};
@@ -85,10 +86,10 @@ pub fn seen_sheets_end_sooner()
 /// To follow nested sheets or nodes further than the bounds of the definitions changes nothing.
 pub fn more_depth_changes_nothing()
     ensures row_values { (s : SceneRecord) (pictures : Pictures) → AllEnd s.sheets → (more k row : ℕ) (f : Dropped)
-        → row_walk (by_points s pictures) s.sheets (16 + more) k row f
+        → row_walk (by_points s pictures) s.sheets (DEEPEST_NEST + more) k row f
         ≡ row_under s pictures k row f }
     ensures row_exprs { (s : SceneRecord) → AllEnd s.sheets → (more k row : ℕ) (f : Dropped)
-        → row_walk (by_offsets s) s.sheets (16 + more) k row f ≡ row_expr s k row f }
+        → row_walk (by_offsets s) s.sheets (DEEPEST_NEST + more) k row f ≡ row_expr s k row f }
     ensures values { (s : SceneRecord) (pictures : Pictures) → AllEnd s.sheets
         → (more k : ℕ) (n : Ref) (row : ℕ) (f : Dropped)
         → walk (by_points s pictures) (whole_row (by_points s pictures) s.sheets) (sheet_at s.sheets k) (depth_of (sheet_at s.sheets k) + more) n row f

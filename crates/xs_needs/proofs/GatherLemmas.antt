@@ -1,25 +1,23 @@
 -- One step of the gathering of drawings
-use Rattle.std.proofs.Common.{◌≡◌, ◌<◌, ℕ, suc, true, cond, Result, Ok, Err, List, [], ◌∷◌, ◌++◌, length, drop, get_or, All, Contains, OnOk, append_assoc, append-nil, sym, ap, ◌∙◌, subst}
+use Rattle.std.proofs.Common.{◌≡◌, ◌<◌, ℕ, suc, true, cond, Result, Ok, Err, List, [], ◌∷◌, ◌++◌, length, All, Contains, OnOk, append_assoc, append-nil, sym, ap, ◌∙◌, subst}
 use Rattle.std.specs.List.{list_any}
-use Rattle.std.proofs.Math.Seq.{drop-cons, drop-length}
 use Rattle.std.proofs.lemmas.Bool.{cond_both}
-use Rattle.std.proofs.lemmas.List.Elements.{All-push, Contains-append_left}
+use Rattle.std.proofs.lemmas.List.Elements.{All-nil, All-cons, All-head, All-tail, All-push, Contains-append_left}
 use Rattle.xs_scene.specs.declared.node.Ref.{Ref}
 use Rattle.xs_scene.specs.Records.{SceneRecord}
 use Rattle.xs_meaning.specs.Expressions.{Staying, Both, First, Second, Neither}
-use Rattle.xs_meaning.specs.Palettes.{is_listed}
+use Rattle.xs_base.specs.Listed.{is_listed}
 use Rattle.xs_check.specs.Good.{files_of}
 use Rattle.xs_needs.specs.declared.found.Found.{Found}
 use Rattle.xs_needs.specs.declared.found.Gathered.{Gathered}
 use Rattle.indexmap.specs.IndexSet.{insert_key}
 use Rattle.xs_needs.specs.declared.found.Known.{Known}
-use Rattle.xs_needs.specs.declared.spot.Spot.{Spot}
+use Rattle.xs_step.specs.declared.spot.Spot.{Spot}
 use Rattle.xs_needs.specs.Found.{AreWhole, IsSound, KeepsFlags, IsKept}
 use Rattle.xs_needs.specs.Spots.{same_spot}
 use Rattle.xs_needs.proofs.Remembered.{listed-kept}
-use Rattle.xs_schematic.specs.Once.{fresh, with_one, with_each}
-use Rattle.xs_needs.specs.Rules.{drawings_over}
-use Rattle.xs_needs.specs.Shown.{Showing, drawings_in, showing_staying, first_stays, second_stays}
+use Rattle.xs_base.specs.Once.{fresh, with_one, with_each}
+use Rattle.xs_needs.specs.Shown.{Showing, drawings_in, drawings_over, showing_staying, first_stays, second_stays}
 
 -- what follows from two facts that hold where a call succeeds holds there
 pub OnOk-both : {A E : Type 0} (r : Result A E) (P Q R : Type 0) → (P → Q → R) → OnOk r P → OnOk r Q → OnOk r R
@@ -50,20 +48,26 @@ gathered-pair after known First a b = with_none (with_each known (drawings_in a)
 gathered-pair after known Second a b = ap (λ l. with_each l (drawings_in b)) (with_none known)
 gathered-pair after known Neither a b = with_none (with_each known [])
 
--- columns and nodes that lie over one another, from the last on
-pub over-start :
-    (known : List ℕ) (E : Ref → Showing) (ts : List Ref) → known ≡ with_each known (drawings_over E (drop (length ts) ts))
-over-start known E ts =
-    sym (with_none known) ∙ ap (λ l. with_each known (drawings_over E l)) (sym (drop-length ts))
+over-last :
+    (E : Ref → Showing) (below : List Ref) (t : Ref) → drawings_over E (below ++ t ∷ []) ≡ drawings_in (E t) ++ drawings_over E below
+over-last E [] t = sym (append-nil (drawings_in (E t)))
+over-last E (b ∷ below) t =
+    ap (λ l. l ++ drawings_in (E b)) (over-last E below t)
+    ∙ append_assoc (drawings_in (E t)) (drawings_over E below) (drawings_in (E b))
 
-pub over-step :
-    OneAfterAnother → (known : List ℕ) (E : Ref → Showing) (ts : List Ref) (i above : ℕ) (d : Ref) → above ≡ suc i → i < length ts
-    → with_each (with_each known (drawings_over E (drop above ts))) (drawings_in (E (get_or ts i d)))
-    ≡ with_each known (drawings_over E (drop i ts))
-over-step after known E ts i above d next lt =
-    sym (with_both after known (drawings_over E (drop above ts)) (drawings_in (E (get_or ts i d))))
-    ∙ ap (λ m. with_each known (drawings_over E (drop m ts) ++ drawings_in (E (get_or ts i d)))) next
-    ∙ sym (ap (λ us. with_each known (drawings_over E us)) (drop-cons ts i d lt))
+-- columns and nodes that lie over one another: first the topmost one
+pub gathered-topmost :
+    OneAfterAnother → (known : List ℕ) (E : Ref → Showing) (ts below : List Ref) (t : Ref) → ts ≡ below ++ t ∷ []
+    → with_each known (drawings_over E ts) ≡ with_each (with_each known (drawings_in (E t))) (drawings_over E below)
+gathered-topmost after known E ts below t is =
+    ap (λ us. with_each known (drawings_over E us)) is
+    ∙ ap (with_each known) (over-last E below t)
+    ∙ with_both after known (drawings_in (E t)) (drawings_over E below)
+
+pub All-front : {X : Type 0} (P : X → Type 0) (xs ys : List X) → All P (xs ++ ys) → All P xs
+All-front P [] ys all = All-nil P
+All-front P (x ∷ xs) ys all =
+    All-cons P x xs (All-head P x (xs ++ ys) all) (All-front P xs ys (All-tail P x (xs ++ ys) all))
 
 -- what is remembered stays sound
 pub sound-note :

@@ -1,4 +1,3 @@
 pub mod Remembered
 pub mod Showings
-pub mod Ways
 pub mod GatherLemmas

@@ -10,24 +10,28 @@ use Rattle.std.proofs.lemmas.Map.Views.{Contains-from_any, IfSome-lookup}
 use Rattle.indexmap.specs.IndexMap.{insert_entry}
 use Rattle.indexmap.specs.IndexSet.{insert_key}
 use Rattle.xs_scene.specs.Records.{SceneRecord}
-use Rattle.xs_needs.specs.declared.spot.At.{At}
-use Rattle.xs_needs.specs.declared.spot.At.TheVariants.{Row, Column, Node}
-use Rattle.xs_needs.specs.declared.spot.Spot.{Spot}
-use Rattle.xs_needs.specs.contracts.spot.AtPartialEq.TheImpl as at_equality
+use Rattle.xs_scene.specs.declared.node.Ref.{Ref}
+use Rattle.xs_scene.specs.declared.node.Ref.TheVariants.{Column, Node}
+use Rattle.xs_scene.specs.contracts.node.RefPartialEq.TheImpl as ref_equality
+use Rattle.xs_step.specs.declared.spot.At.{At}
+use Rattle.xs_step.specs.declared.spot.At.TheVariants.{Row, Input}
+use Rattle.xs_step.specs.declared.spot.Spot.{Spot}
+use Rattle.xs_step.specs.contracts.spot.AtPartialEq.TheImpl as at_equality
 use Rattle.xs_needs.specs.Spots.{same_spot}
-use Rattle.xs_needs.specs.Rules.{drawings_at, is_clear_at}
+use Rattle.xs_needs.specs.Shown.{drawings_at, is_clear_at}
 use Rattle.xs_needs.specs.Found.{AreRight, AreWhole}
+
+ref_exact : (a b : Ref) → (ref_equality.eq-value).it a b ≡ true → a ≡ b
+ref_exact (Column c) (Column d) same = ap Column (eqb-true c d same)
+ref_exact (Column c) (Node d) same = cc
+ref_exact (Node c) (Column d) same = cc
+ref_exact (Node c) (Node d) same = ap Node (eqb-true c d same)
 
 at_exact : (a b : At) → (at_equality.eq-value).it a b ≡ true → a ≡ b
 at_exact Row Row same = refl
-at_exact Row (Column d) same = cc
-at_exact Row (Node d) same = cc
-at_exact (Column c) Row same = cc
-at_exact (Column c) (Column d) same = ap Column (eqb-true c d same)
-at_exact (Column c) (Node d) same = cc
-at_exact (Node c) Row same = cc
-at_exact (Node c) (Column d) same = cc
-at_exact (Node c) (Node d) same = ap Node (eqb-true c d same)
+at_exact Row (Input u) same = cc
+at_exact (Input t) Row same = cc
+at_exact (Input t) (Input u) same = ap Input (ref_exact t u same)
 
 exact : (x y : Spot) → same_spot x y ≡ true → x ≡ y
 exact x y same =
@@ -40,8 +44,8 @@ exact x y same =
 
 at_same : (a : At) → (at_equality.eq-value).it a a ≡ true
 at_same Row = refl
-at_same (Column c) = eq-eqb c c refl
-at_same (Node n) = eq-eqb n n refl
+at_same (Input (Column c)) = eq-eqb c c refl
+at_same (Input (Node n)) = eq-eqb n n refl
 
 same : (p : Spot) → same_spot p p ≡ true
 same p =

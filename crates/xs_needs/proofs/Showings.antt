@@ -7,28 +7,23 @@ use mathlib.Core.Path.{fun_ext}
 use Rattle.xs_pixel.specs.Channels.{Channels}
 use Rattle.xs_pixel.specs.declared.operation.Op.{Op}
 use Rattle.xs_pixel.specs.declared.operation.Op.TheVariants.{Over as OverOp}
-use Rattle.xs_scene.specs.declared.seen.Seen.{Seen}
-use Rattle.xs_scene.specs.declared.seen.Seen.TheVariants.{Empty, Drawing as SeenDrawing, Row as SeenRow}
 use Rattle.xs_scene.specs.declared.node.Ref.{Ref}
-use Rattle.xs_scene.specs.declared.node.Ref.TheVariants.{Column as ToColumn, Node as ToNode}
-use Rattle.xs_scene.specs.declared.node.Node.{Node}
-use Rattle.xs_scene.specs.declared.node.Node.TheVariants.{Pair as PairNode, Card as CardNode, Shuffle, Blur as BlurNode, Keep, Delete}
 use Rattle.xs_scene.specs.Records.{SceneRecord, ColoursRecord, LevelRecord}
-use Rattle.xs_meaning.specs.Cells.{cell_at}
 use Rattle.xs_meaning.specs.Drawings.{colours_of, number_of}
 use Rattle.xs_meaning.specs.Ends.{AllEnd}
 use Rattle.xs_meaning.specs.Expressions.{Expr, Clear, Leaf, Tinted, Card, Pair, Blur, is_clear, Staying, Both, First, Second, Neither, staying, pair_staying, pair_of, blur_of, card_of, leaf_by, by_offsets, row_expr, drawings_of}
 use Rattle.xs_meaning.specs.Palettes.{Dropped, none_dropped, keeping, deleting, is_as_written, is_clear_pixel, pixel_of, tint_at}
-use Rattle.xs_meaning.specs.Points.{Point, plus}
-use Rattle.xs_meaning.specs.Walk.{sheet_at, column_at, terminals_of, whole_row, whole_input, depth_of, composed_by, above_by, seen_by, column_by, node_by, listed_by}
+use Rattle.xs_pixel.specs.Points.{Point, plus}
+use Rattle.xs_meaning.specs.Walk.{sheet_at, whole_row, whole_input, depth_of, composed_by, above_by}
 use Rattle.xs_meaning.proofs.Agree.{Agrees, row_walk-agrees, walk-agrees, meets-any}
-use Rattle.xs_meaning.proofs.Depth.{whole_input-column, whole_input-node, whole_row-row}
-use Rattle.xs_needs.specs.declared.spot.At.{At}
-use Rattle.xs_needs.specs.declared.spot.At.TheVariants.{Row, Column, Node as NodeAt}
-use Rattle.xs_needs.specs.declared.spot.Spot.{Spot}
-use Rattle.xs_needs.specs.declared.rule.Rule.TheVariants.{Clear as ClearRule, Pixel}
-use Rattle.xs_needs.specs.Shown.{Showing, drawings_in, showing_of, showing_staying, by_showing}
-use Rattle.xs_needs.specs.Rules.{spot, input_spot, showing_at, shown, rule_of_seen, rule_of_listed, rule_of_node, rule_in, rule_of, showing_by, drawings_over}
+use Rattle.xs_step.specs.declared.spot.At.{At}
+use Rattle.xs_step.specs.declared.spot.At.TheVariants.{Row, Input}
+use Rattle.xs_step.specs.declared.spot.Spot.{Spot}
+use Rattle.xs_step.specs.Readings.{answer_in, answer_at, step_by}
+use Rattle.xs_step.specs.Spots.{spot}
+use Rattle.xs_step.specs.Steps.{step_of}
+use Rattle.xs_step.proofs.Readings.{answer-step}
+use Rattle.xs_needs.specs.Shown.{Showing, drawings_in, drawings_over, showing_of, showing_staying, by_showing, shown, showing_by}
 
 -- ---- what an expression shows
 
@@ -96,7 +91,7 @@ agrees :
     (s : SceneRecord)
     → Agrees (by_offsets s) (by_showing s.levels) (λ d e showing. Shows e showing) (λ f g. f ≡ g)
     (λ style. Unit {0}) (λ q. Unit {0})
-unfolding by_offsets by_showing
+unfolding by_offsets
 agrees s =
     record {
       nothing = λ d o. refl;
@@ -126,7 +121,6 @@ alike :
     (levels : List LevelRecord)
     → Agrees (by_showing levels) (by_showing levels) (λ d a b. a ≡ b) (λ f g. Unit {0})
     (λ style. Unit {0}) (λ q. Unit {0})
-unfolding by_showing
 alike levels =
     record {
       nothing = λ d. refl;
@@ -162,7 +156,7 @@ input-any_dropped s k n row f g =
 pub drawings-row_expr :
     (s : SceneRecord) (k row : ℕ) (f : Dropped) (o : Point)
     → drawings_of (row_expr s k row f o) ≡ drawings_in (shown s (spot k Row row))
-unfolding shown
+unfolding shown answer_at
 drawings-row_expr s k row f o =
     sym (drawings_in-showing_of (row_expr s k row f o))
     ∙ ap drawings_in (showing-row_expr s k row f o ∙ row-any_dropped s k row f none_dropped)
@@ -170,7 +164,7 @@ drawings-row_expr s k row f o =
 pub clear-row_expr :
     (s : SceneRecord) (k row : ℕ) (f : Dropped) (o : Point)
     → is_clear (row_expr s k row f o) ≡ is_none (shown s (spot k Row row))
-unfolding shown
+unfolding shown answer_at
 clear-row_expr s k row f o =
     sym (is_none-showing_of (row_expr s k row f o))
     ∙ ap is_none (showing-row_expr s k row f o ∙ row-any_dropped s k row f none_dropped)
@@ -194,7 +188,6 @@ over-drawings (Some a) (Some b) = refl
 above-drawings :
     (levels : List LevelRecord) (E : Ref → Showing) (ts : List Ref) (was : Showing)
     → drawings_in (above_by (by_showing levels) was (map E ts)) ≡ drawings_over E ts ++ drawings_in was
-unfolding by_showing
 above-drawings levels E [] was = refl
 above-drawings levels E (t ∷ ts) was =
     let next = showing_staying (staying OverOp (is_none (E t)) (is_none was)) (E t) was in
@@ -205,7 +198,6 @@ above-drawings levels E (t ∷ ts) was =
 pub composed-drawings :
     (levels : List LevelRecord) (E : Ref → Showing) (ts : List Ref)
     → drawings_in (composed_by (by_showing levels) (map E ts)) ≡ drawings_over E ts
-unfolding by_showing
 composed-drawings levels E [] = refl
 composed-drawings levels E (t ∷ ts) = above-drawings levels E ts (E t)
 
@@ -218,7 +210,6 @@ and_turned false false r = refl
 above-none :
     (levels : List LevelRecord) (E : Ref → Showing) (ts : List Ref) (was : Showing)
     → is_none (above_by (by_showing levels) was (map E ts)) ≡ (is_none was && list_all (λ t. is_none (E t)) ts)
-unfolding by_showing
 above-none levels E [] was = sym (and-true (is_none was))
 above-none levels E (t ∷ ts) was =
     let next = showing_staying (staying OverOp (is_none (E t)) (is_none was)) (E t) was in
@@ -229,92 +220,26 @@ above-none levels E (t ∷ ts) was =
 pub composed-none :
     (levels : List LevelRecord) (E : Ref → Showing) (ts : List Ref)
     → is_none (composed_by (by_showing levels) (map E ts)) ≡ list_all (λ t. is_none (E t)) ts
-unfolding by_showing
 composed-none levels E [] = refl
 composed-none levels E (t ∷ ts) = above-none levels E ts (E t)
 
--- ---- rule by rule
+-- ---- step by step
 
-shown-input :
-    (s : SceneRecord) (k : ℕ) (t : Ref) (row : ℕ) (f : Dropped)
-    → whole_input (by_showing s.levels) s.sheets k t row f ≡ shown s (input_spot k t row)
-unfolding shown
-shown-input s k (ToColumn c) row f = input-any_dropped s k (ToColumn c) row f none_dropped
-shown-input s k (ToNode n) row f = input-any_dropped s k (ToNode n) row f none_dropped
-
-seen-rule :
-    (s : SceneRecord) (k row : ℕ) (seen : Seen)
-    → seen_by (by_showing s.levels) (whole_row (by_showing s.levels) s.sheets) seen row none_dropped
-    ≡ showing_by s (shown s) k row (rule_of_seen s.levels seen)
-unfolding by_showing shown
-seen-rule s k row Empty = refl
-seen-rule s k row (SeenDrawing level index) = refl
-seen-rule s k row (SeenRow sheet inner) = refl
-
-listed-rule :
-    (s : SceneRecord) (k row : ℕ) (input : Ref) (o : Option ℕ)
-    → listed_by (by_showing s.levels) (whole_input (by_showing s.levels) s.sheets k input) o none_dropped
-    ≡ showing_by s (shown s) k row (rule_of_listed k input o)
-listed-rule s k row input None = unfold by_showing in refl
-listed-rule s k row input (Some listed) = shown-input s k input listed none_dropped
-
-card-rule :
-    (s : SceneRecord) (k row : ℕ) (b : Bool)
-    → cond b None (Some []) ≡ showing_by s (shown s) k row (cond b ClearRule Pixel)
-card-rule s k row true = refl
-card-rule s k row false = refl
-
-pair-rule :
-    (s : SceneRecord) (k row : ℕ) (op : Op) (first second : Ref)
-    → node_by (by_showing s.levels) (whole_input (by_showing s.levels) s.sheets k) (Some (PairNode op first second)) row none_dropped
-    ≡ showing_by s (shown s) k row (rule_of_node k row (Some (PairNode op first second)))
-unfolding by_showing
-pair-rule s k row op first second =
-    ap₂ (λ x y. showing_staying (staying op (is_none x) (is_none y)) x y)
-    (shown-input s k first row none_dropped) (shown-input s k second row none_dropped)
-
-node-rule :
-    (s : SceneRecord) (k row : ℕ) (node : Option Node)
-    → node_by (by_showing s.levels) (whole_input (by_showing s.levels) s.sheets k) node row none_dropped
-    ≡ showing_by s (shown s) k row (rule_of_node k row node)
-node-rule s k row None = unfold by_showing in refl
-node-rule s k row (Some (PairNode op first second)) = pair-rule s k row op first second
-node-rule s k row (Some (CardNode style)) = unfold by_showing in card-rule s k row (is_clear_pixel (pixel_of style))
-node-rule s k row (Some (Shuffle input list)) = listed-rule s k row input (slice_get list (row - 1))
-node-rule s k row (Some (BlurNode input radius)) = unfold by_showing in shown-input s k input row none_dropped
-node-rule s k row (Some (Keep input styles)) = shown-input s k input row (keeping styles none_dropped)
-node-rule s k row (Some (Delete input styles)) = shown-input s k input row (deleting styles none_dropped)
-
-column-rule :
-    (s : SceneRecord) (k c row : ℕ)
-    → showing_at s k (Column c) row ≡ showing_by s (shown s) k row (rule_in s k (Column c) row)
-column-rule s k c row =
-    whole_input-column (by_showing s.levels) s.sheets k c row none_dropped
-    ∙ unmoved
-    ∙ seen-rule s k row (cell_at (column_at (sheet_at s.sheets k) c) row)
+answer-any_dropped :
+    (s : SceneRecord) (p : Spot) (f : Dropped) → answer_at (by_showing s.levels) s p f ≡ shown s p
+unfolding answer_at shown
+answer-any_dropped s p f = by_place p.at
   where
-    seen : Showing
-    seen =
-        seen_by (by_showing s.levels) (whole_row (by_showing s.levels) s.sheets)
-        (cell_at (column_at (sheet_at s.sheets k) c) row) row none_dropped
+    by_place : (at : At)
+        → answer_in (by_showing s.levels) s p.sheet at p.row f ≡ answer_in (by_showing s.levels) s p.sheet at p.row none_dropped
+    by_place Row = row-any_dropped s p.sheet p.row f none_dropped
+    by_place (Input n) = input-any_dropped s p.sheet n p.row f none_dropped
 
-    unmoved : column_by (by_showing s.levels) (whole_row (by_showing s.levels) s.sheets) (sheet_at s.sheets k) c row none_dropped ≡ seen
-    unmoved = unfold by_showing in refl
-
-place-rule :
-    (s : SceneRecord) → AllEnd s.sheets → (k : ℕ) (at : At) (row : ℕ)
-    → showing_at s k at row ≡ showing_by s (shown s) k row (rule_in s k at row)
-place-rule s ends k Row row =
-    whole_row-row (by_showing s.levels) s.sheets ends k row none_dropped
-    ∙ ap (λ v. composed_by (by_showing s.levels) (map v (terminals_of (sheet_at s.sheets k))))
-    (fun_ext (λ t. shown-input s k t row none_dropped))
-place-rule s ends k (Column c) row = column-rule s k c row
-place-rule s ends k (NodeAt n) row =
-    whole_input-node (by_showing s.levels) s.sheets ends k n row none_dropped
-    ∙ node-rule s k row (slice_get (sheet_at s.sheets k).nodes n)
-
--- what a spot shows is told by its rule
-pub shown-rule :
-    (s : SceneRecord) → AllEnd s.sheets → (p : Spot)
-    → shown s p ≡ showing_by s (shown s) p.sheet p.row (rule_of s p)
-shown-rule s ends p = unfold shown rule_of in place-rule s ends p.sheet p.at p.row
+-- what a spot shows is told by its step
+pub shown-step :
+    (s : SceneRecord) → AllEnd s.sheets → (p : Spot) → shown s p ≡ showing_by s (shown s) p (step_of s p)
+shown-step s ends p =
+    sym (answer-any_dropped s p none_dropped)
+    ∙ answer-step (by_showing s.levels) s (λ q. refl) ends p none_dropped
+    ∙ ap (λ E. step_by (by_showing s.levels) E p none_dropped (step_of s p))
+    (fun_ext (λ q. fun_ext (λ f. answer-any_dropped s q f)))

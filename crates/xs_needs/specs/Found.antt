@@ -2,11 +2,11 @@ use Rattle.std.specs.Prelude.{◌≡◌, ◌<◌, ℕ, Bool, List, All, Contains
 use Rattle.indexmap.specs.IndexMap.{get}
 use Rattle.indexmap.specs.IndexSet.{contains}
 use Rattle.xs_scene.specs.Records.{SceneRecord}
-use Rattle.xs_needs.specs.declared.spot.Spot.{Spot}
+use Rattle.xs_step.specs.declared.spot.Spot.{Spot}
 use Rattle.xs_check.specs.Good.{files_of}
 use Rattle.xs_needs.specs.declared.found.Found.{Found}
 use Rattle.xs_needs.specs.declared.found.Known.{Known}
-use Rattle.xs_needs.specs.Rules.{drawings_at, is_clear_at}
+use Rattle.xs_needs.specs.Shown.{drawings_at, is_clear_at}
 use Rattle.xs_needs.specs.Spots.{same_spot}
 
 -- each flag says whether its spot is clear

@@ -1,4 +1,3 @@
 pub mod Shown
-pub mod Rules
 pub mod Spots
 pub mod Found

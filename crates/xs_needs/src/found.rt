@@ -3,13 +3,13 @@
 ghost use Rattle.std.specs.Prelude.{◌≡◌, [], IfOk, OnOk};
 ghost use Rattle.indexmap.specs.IndexMap.{get, insert_entry};
 ghost use Rattle.indexmap.specs.IndexSet.{contains, insert_key};
-ghost use Rattle.xs_schematic.specs.Once.{with_one};
+ghost use Rattle.xs_base.specs.Once.{with_one};
 ghost use Rattle.xs_needs.specs.Spots.{same_spot};
 
-use crate::spot::Spot;
 use indexmap::{IndexMap, IndexSet};
 use std::alloc::Global;
-use xs_pixel::Memory;
+use xs_base::Memory;
+use xs_step::Spot;
 
 /// Which spots are clear, of those that were asked.
 #[derive(Drop)]

@@ -5,21 +5,22 @@ ghost use Rattle.indexmap.specs.IndexSet.{contains};
 ghost use Rattle.xs_meaning.specs.Ends.{AllEnd};
 ghost use Rattle.xs_meaning.specs.Expressions.{staying as staying_of};
 ghost use Rattle.xs_needs.specs.Found.{IsKept, IsSound};
-ghost use Rattle.xs_schematic.specs.Once.{with_each};
-ghost use Rattle.xs_needs.specs.Rules.{AreThere, LeadsTo, WaysEnd, drawings_at, is_clear_at, drawings_over, shown, showing_by, input_spot};
+ghost use Rattle.xs_base.specs.Once.{with_each};
 ghost use Rattle.xs_needs.specs.Spots.{same_spot};
-ghost use Rattle.xs_needs.specs.Shown.{drawings_in, showing_staying};
+ghost use Rattle.xs_needs.specs.Shown.{drawings_at, drawings_in, drawings_over, is_clear_at, showing_by, showing_staying, shown};
+ghost use Rattle.xs_step.specs.Spots.{input_spot};
+ghost use Rattle.xs_step.specs.Steps.{AreThere};
+ghost use Rattle.xs_step.specs.Ways.{LeadsTo, WaysEnd};
 
 use crate::clear::is_clear;
 use crate::found::Found;
 use crate::pairs::staying;
-use crate::rule::{Rule, rule_at};
-use crate::spot::{Spot, input};
 use std::alloc::Global;
+use xs_base::Memory;
+use xs_base::laws::each_number_is_taken_once;
 use xs_check::GoodScene;
-use xs_pixel::{Memory, Op};
-use xs_scene::Ref;
-use xs_schematic::laws::each_number_is_taken_once;
+use xs_pixel::Op;
+use xs_step::{Spot, Step, Terminals, input, step_at};
 
 /// Gathers the drawings of a spot, and remembers that they are gathered. The ways from it have at most
 /// `left` spots.
@@ -45,43 +46,46 @@ pub fn gather(
     if found.gathered.has_all_of(spot) {
         return Ok(());
     }
-    let rule = rule_at(alloc, s, spot)?;
-    gather_by(alloc, s, left, spot, &rule, found)?;
+    gather_by(alloc, s, left, spot, step_at(s, spot), found)?;
     found.gathered.note(spot)
 }
 
-/// Gathers the drawings of a spot, by its rule.
+/// Gathers the drawings of a spot, by its step.
 #[cycle(gather)]
 fn gather_by(
     alloc: Global,
     s: &GoodScene,
     left: u32,
     spot: Spot,
-    rule: &Rule,
+    step: Step<'_>,
     found: &mut Found,
 ) -> Result<(), Memory>
     requires all_end { AllEnd s.now.sheets }
-    requires there { AreThere s.now spot.sheet rule.now }
+    requires there { AreThere s.now spot step }
     requires some_left { 1 ≤ left }
-    requires ends { LeadsTo (WaysEnd s.now (left - 1)) spot.sheet spot.row rule.now }
+    requires ends { LeadsTo (WaysEnd s.now (left - 1)) spot step }
     requires sound { IsSound s.now found.old }
     ensures drawings { OnOk result (found.new.gathered.drawings.keys
         ≡ with_each found.old.gathered.drawings.keys
-        (drawings_in (showing_by s.now (shown s.now) spot.sheet spot.row rule.now))) }
+        (drawings_in (showing_by s.now (shown s.now) spot step.entry))) }
     ensures sound { OnOk result (IsSound s.now found.new) }
     ensures kept { OnOk result (IsKept found.old found.new) }
 {
-    match rule {
-        Rule::Clear | Rule::Pixel => Ok(()),
-        Rule::Drawing(drawing) => {
+    match step {
+        Step::Clear | Step::Card(_) => Ok(()),
+        Step::Drawing { level, index, .. } => {
             each_number_is_taken_once();
-            found.gathered.add(*drawing)
+            found.gathered.add(s.number(level, index))
         }
-        Rule::Same(next) => gather(alloc, s, left - 1, *next, found),
-        Rule::Pair(op, first, second) => {
-            gather_pair(alloc, s, left - 1, *op, (*first, *second), found)
+        Step::Nested { row: next, .. }
+        | Step::Same(next)
+        | Step::Keep(next, _)
+        | Step::Delete(next, _)
+        | Step::Blur(_, next) => { gather(alloc, s, left - 1, next, found) }
+        Step::Pair(op, first, second) => {
+            gather_pair(alloc, s, left - 1, op, (first, second), found)
         }
-        Rule::Over(terminals) => gather_over(alloc, s, left - 1, spot, terminals.items(), found),
+        Step::Over(terminals) => gather_over(alloc, s, left - 1, spot, terminals, found),
     }
 }
 
@@ -151,25 +155,25 @@ fn gather_over(
     s: &GoodScene,
     left: u32,
     spot: Spot,
-    terminals: &[Ref],
+    terminals: Terminals<'_>,
     found: &mut Found,
 ) -> Result<(), Memory>
     requires all_end { AllEnd s.now.sheets }
     requires there { spot.sheet < length s.now.sheets }
-    requires ends { All (λ t. WaysEnd s.now left (input_spot spot.sheet t spot.row)) terminals.now }
+    requires ends { All (λ t. WaysEnd s.now left (input_spot spot.sheet t spot.row)) terminals }
     requires sound { IsSound s.now found.old }
     ensures drawings { OnOk result (found.new.gathered.drawings.keys
         ≡ with_each found.old.gathered.drawings.keys
-        (drawings_over (λ t. shown s.now (input_spot spot.sheet t spot.row)) terminals.now)) }
+        (drawings_over (λ t. shown s.now (input_spot spot.sheet t spot.row)) terminals.entry)) }
     ensures sound { OnOk result (IsSound s.now found.new) }
     ensures kept { OnOk result (IsKept found.old found.new) }
 {
     each_number_is_taken_once();
-    let mut below = terminals.len();
-    while below > 0 {
-        below -= 1;
-        let at = input(spot.sheet, terminals[below], spot.row);
+    let mut rest = terminals;
+    while let Some((terminal, below)) = rest.split_last() {
+        let at = input(spot.sheet, terminal, spot.row);
         gather(alloc, s, left, at, found)?;
+        rest = below;
     }
     Ok(())
 }

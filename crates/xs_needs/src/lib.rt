@@ -8,7 +8,5 @@ mod gather;
 pub mod laws;
 mod needs;
 mod pairs;
-mod rule;
-mod spot;
 
 pub use needs::row_drawings;

@@ -10,7 +10,7 @@ use crate::library::{Fetched, Library};
 use crate::object::Object;
 use std::alloc::{AllocError, Global};
 use std::marker::Model;
-use xs_pixel::{List, Memory};
+use xs_base::{List, Memory};
 
 /// Files in memory. Of two files with one name the first counts. It tells everything.
 #[derive(Debug, Drop)]

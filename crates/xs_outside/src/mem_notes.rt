@@ -7,7 +7,7 @@ use crate::calls::Calls;
 use crate::notes::{Noted, Notes};
 use std::alloc::Global;
 use std::marker::Model;
-use xs_pixel::Memory;
+use xs_base::Memory;
 
 /// Notes in memory. They tell everything.
 #[derive(Debug, Drop)]

@@ -8,7 +8,7 @@ use crate::object::Object;
 use crate::shelf::{Put, Shelf};
 use std::alloc::{AllocError, Global};
 use std::marker::Model;
-use xs_pixel::Memory;
+use xs_base::Memory;
 
 /// A shelf in memory. It tells everything.
 #[derive(Debug, Drop)]

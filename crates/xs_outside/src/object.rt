@@ -1,12 +1,14 @@
 ghost use Rattle.std.specs.Prelude.{◌≡◌, IfOk};
 
 use std::alloc::Global;
-use xs_pixel::{List, Memory};
+use xs_base::{List, Memory};
 
 /// One named file: its name and its bytes.
 #[derive(Debug, Drop)]
 pub struct Object {
+    /// The bytes of its name.
     pub name: List<u8>,
+    /// What it holds.
     pub bytes: List<u8>,
 }
 

@@ -5,7 +5,9 @@ use Rattle.xs_pixel.specs.Channels.{Channels, clear}
 use Rattle.xs_palette.specs.Styles.{style_of}
 
 -- a style stands at the lesser of its number and the last place, if the first and the last pixel are clear
-pub look_up : (last : ℕ) (styles : List Channels) → length styles ≡ last + 1 → get_or styles 0 clear ≡ clear → get_or styles last clear ≡ clear → (id : ℕ) → get_or styles (min id last) clear ≡ style_of styles id
+pub look_up :
+    (last : ℕ) (styles : List Channels) → length styles ≡ last + 1 → get_or styles 0 clear ≡ clear
+    → get_or styles last clear ≡ clear → (id : ℕ) → get_or styles (min id last) clear ≡ style_of styles id
 look_up last styles long zero_clear last_clear zero = let at : min 0 last ≡ 0 = omega arith in rw at zero_clear
 look_up last styles long zero_clear last_clear (suc id) =
     elim (cases_lt last (suc id)) [

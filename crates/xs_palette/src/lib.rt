@@ -5,4 +5,4 @@ mod fault;
 mod palette;
 
 pub use fault::PaletteFault;
-pub use palette::{MOST_STYLES, Palette, palette_crosses_threads};
+pub use palette::{Palette, palette_crosses_threads};

@@ -2,16 +2,15 @@ ghost use Rattle.std.specs.Prelude.{◌≡◌, ℕ, ◌+◌, ◌-◌, ◌*◌, �
 ghost use Rattle.std.specs.Simd.Lanes.{Each1};
 ghost use Rattle.xs_pixel.specs.Channels.{clear, IsPixel};
 ghost use Rattle.xs_palette.specs.Styles.{written, style_of};
-ghost use Rattle.xs_pixel.specs.Rows.{pixels};
+ghost use Rattle.xs_pixel.specs.PixelRows.{pixels};
 
 use crate::fault::PaletteFault;
 use std::alloc::Global;
 use std::marker::Model;
+use xs_base::crosses_threads;
+use xs_base::limits::MOST_STYLES;
 use xs_pixel::laws::rows_of_bytes_are_rows_of_pixels;
 use xs_pixel::{Pixel, Style};
-
-/// The greatest number of styles in a palette.
-pub const MOST_STYLES: usize = 4096;
 
 /// The pixels of a palette's styles. Contracts see it as the list of these pixels, in which
 /// `style_of` looks one up.
@@ -26,7 +25,7 @@ pub struct Palette {
 impl Model for Palette {
     ghost use Rattle.std.specs.Prelude.{List};
     ghost use Rattle.xs_pixel.specs.Channels.{Channels};
-    ghost use Rattle.xs_pixel.specs.Rows.{pixels};
+    ghost use Rattle.xs_pixel.specs.PixelRows.{pixels};
     ghost use Rattle.xs_palette.specs.Table.{IsTable};
 
     ghost Value = { List Channels };
@@ -96,5 +95,3 @@ fn shown(styles: &[Style], id: usize) -> Pixel
 pub fn palette_crosses_threads() {
     crosses_threads::<Palette>();
 }
-
-fn crosses_threads<T: Send + Sync>() {}

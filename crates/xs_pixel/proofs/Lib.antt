@@ -1,4 +1,4 @@
-pub mod Boxes
+mod Boxes
 pub mod Products
 pub mod StaysPixel
-pub mod Rows
+pub mod PixelRowLemmas

@@ -19,7 +19,7 @@ IsPixel-over_of u d upper lower =
       top = over_le_255 u.m d.m upper.top lower.top;
     }
 
-pub IsPixel-add_of : (u d : Channels) → IsPixel u → IsPixel d → IsPixel (add_of u d)
+IsPixel-add_of : (u d : Channels) → IsPixel u → IsPixel d → IsPixel (add_of u d)
 IsPixel-add_of u d upper lower =
     record {
       red = omega (arith, upper.red, lower.red);
@@ -28,7 +28,7 @@ IsPixel-add_of u d upper lower =
       top = omega arith;
     }
 
-pub IsPixel-sub_of : (u d : Channels) → IsPixel u → IsPixel d → IsPixel (sub_of u d)
+IsPixel-sub_of : (u d : Channels) → IsPixel u → IsPixel d → IsPixel (sub_of u d)
 IsPixel-sub_of u d upper lower =
     record {
       red = omega (arith, lower.red);
@@ -55,7 +55,7 @@ IsPixel-mult_of u d upper lower =
       top = omega (arith, product_le_left u.m d.m lower.top, upper.top);
     }
 
-pub IsPixel-min_of : (u d : Channels) → IsPixel u → IsPixel d → IsPixel (min_of u d)
+IsPixel-min_of : (u d : Channels) → IsPixel u → IsPixel d → IsPixel (min_of u d)
 IsPixel-min_of u d upper lower =
     record {
       red = omega (arith, upper.red, lower.red);
@@ -64,7 +64,7 @@ IsPixel-min_of u d upper lower =
       top = omega (arith, upper.top);
     }
 
-pub IsPixel-max_of : (u d : Channels) → IsPixel u → IsPixel d → IsPixel (max_of u d)
+IsPixel-max_of : (u d : Channels) → IsPixel u → IsPixel d → IsPixel (max_of u d)
 IsPixel-max_of u d upper lower =
     record {
       red = omega (arith, upper.red, lower.red);

@@ -1,4 +1,6 @@
 pub mod Channels
 pub mod Operations
-pub mod Rows
+pub mod PixelRows
 pub mod Picture
+pub mod Points
+pub mod Images

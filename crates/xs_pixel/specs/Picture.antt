@@ -1,9 +1,9 @@
-use Rattle.std.specs.Prelude.{ℕ, ◌+◌, ◌*◌, ℤ, pos, ◌+ℤ◌, ◌-ℤ◌, int_le, int_lt, ◌&&◌, Bool, List, slice_index_or, unsigned_abs, if◌then◌else◌}
-use Rattle.xs_pixel.specs.Channels.{Channels, clear}
+use Rattle.std.specs.Prelude.{ℕ, ◌+◌, ◌*◌, ℤ, pos, ◌+ℤ◌, ◌-ℤ◌, int_le, int_lt, ◌&&◌, Bool, Option, IfSome, List, [], All, slice_index_or, unsigned_abs, if◌then◌else◌}
+use Rattle.xs_pixel.specs.Channels.{Channels, IsPixel, clear}
 
 -- what a level file holds: premultiplied pixels, or words of ink, paint and tone
 pub data Content : Type 0 where
-  Colours : (pixels : List Channels) → Content
+  Pixels : (pixels : List Channels) → Content
   Words : (words : List ℕ) → Content
 
 -- a drawing as it lies in the picture: the corner of its box with the least x and y, the sides of the
@@ -36,3 +36,28 @@ at_point p items outside x y =
 -- the pixel of a picture at a point, clear beyond the box
 abbrev pub pixel_at : Picture → ℤ → ℤ → Channels
 pixel_at p x y = at_point p p.coloured clear x y
+
+-- the picture of each drawing, by its number, if its file is there
+abbrev pub Pictures : Type 0
+Pictures = ℕ → Option Picture
+
+-- the pixels of a colour file, the words of a CM32 file
+abbrev pub pixels_in : Content → List Channels
+pixels_in (Pixels pixels) = pixels
+pixels_in (Words words) = []
+
+abbrev pub words_in : Content → List ℕ
+words_in (Pixels pixels) = []
+words_in (Words words) = words
+
+abbrev pub HoldsPixels : Content → Type 0
+HoldsPixels (Pixels pixels) = All IsPixel pixels
+HoldsPixels (Words words) = Unit {0}
+
+-- the pixels of colour files are pixels
+abbrev pub ArePixels : Pictures → Type 0
+ArePixels pictures = (d : ℕ) → IfSome (pictures d) (λ q. HoldsPixels q.content)
+
+-- P holds of each word of the pictures
+abbrev pub EachWord : (ℕ → Type 0) → Pictures → Type 0
+EachWord P pictures = (d : ℕ) → IfSome (pictures d) (λ q. All P (words_in q.content))

@@ -1,7 +1,7 @@
 //! Blocks of four pixels, four lanes for each.
 
 ghost use Rattle.std.specs.Prelude.{◌≡◌, length};
-ghost use Rattle.xs_pixel.specs.Rows.{mattes_of};
+ghost use Rattle.xs_pixel.specs.PixelRows.{mattes_of};
 
 use std::simd::prelude::*;
 

@@ -6,10 +6,9 @@ ghost use Rattle.std.specs.Simd.Lanes.{chunk, put_chunk};
 ghost use Rattle.xs_pixel.specs.Channels.{Channels, IsPixel, clear};
 ghost use Rattle.xs_pixel.specs.Operations.{product, over_of, add_of, sub_of, mult_of, min_of, max_of, matte_in_of, matte_out_of, apply_of};
 ghost use Rattle.xs_pixel.specs.Picture.{is_in_box, place_in_box};
-ghost use Rattle.xs_pixel.specs.Rows.{pixels};
+ghost use Rattle.xs_pixel.specs.PixelRows.{pixels};
 ghost use Rattle.xs_pixel.specs.declared.operation.Op.{Op};
 
-use crate::list::List;
 use crate::pixel::Pixel;
 
 /// The clear pixel has no colour and no matte.
@@ -77,10 +76,3 @@ pub fn over_is_nearest_to_porter_and_duff()
     ensures above { (u d m : ℕ) → 255 * (u + product d (255 - m)) ≤ 255 * u + d * (255 - m) + 127 }
     ensures below { (u d m : ℕ) → 255 * u + d * (255 - m) ≤ 255 * (u + product d (255 - m)) + 127 }
 {}
-
-/// A list may be sent to another thread, and shared with it, where its items may.
-pub fn list_crosses_threads<T: Send + Sync>() {
-    crosses_threads::<List<T>>();
-}
-
-fn crosses_threads<T: Send + Sync>() {}

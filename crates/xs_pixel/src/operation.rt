@@ -4,7 +4,7 @@ ghost use Rattle.xs_pixel.specs.Operations.{product, over_of, add_of, sub_of, mu
 use crate::pixel::Pixel;
 
 /// How a node composes its two inputs: the first is the upper pixel, the second the lower one.
-#[derive(Clone, Copy, Debug, PartialEq, Eq)]
+#[derive(Clone, Copy, Debug, PartialEq, Eq, Hash)]
 pub enum Op {
     /// The upper pixel laid over the lower one.
     Over,

@@ -1,6 +1,6 @@
 ghost use Rattle.std.specs.Prelude.{◌≡◌, ◌+◌, ◌*◌, ◌≤◌, ◌↔◌, [], ◌∷◌, length, slice_index_or, IsSome, IfSome};
 ghost use Rattle.std.specs.Simd.Lanes.{Each1};
-ghost use Rattle.xs_pixel.specs.Rows.{pixels};
+ghost use Rattle.xs_pixel.specs.PixelRows.{pixels};
 
 use crate::operation::mul255;
 use std::marker::Model;
@@ -8,7 +8,7 @@ use std::simd::prelude::*;
 
 /// A premultiplied pixel: red, green, blue and matte (opacity), each from 0 to 255, no colour above
 /// the matte.
-#[derive(Clone, Copy, Debug, PartialEq, Eq)]
+#[derive(Clone, Copy, Debug, PartialEq, Eq, Hash)]
 pub struct Pixel {
     pub(crate) r: u8,
     pub(crate) g: u8,

@@ -1,7 +1,7 @@
 -- Laws of bytes as pixels and back.
 use Rattle.std.proofs.Common.{◌≡◌, ℕ, zero, suc, ◌-◌, ◌*◌, List, [], ◌∷◌, length, replicate, refl, ap, arith}
 use Rattle.xs_pixel.specs.Channels.{IsPixel, clear}
-use Rattle.xs_pixel.specs.Rows.{pixels}
+use Rattle.xs_pixel.specs.PixelRows.{pixels}
 use Rattle.xs_raster.specs.Bitmap.{bytes_of}
 
 pub bytes_of-pixels : (n : ℕ) (xs : List ℕ) → length xs ≡ 4 * n → bytes_of (pixels xs) ≡ xs

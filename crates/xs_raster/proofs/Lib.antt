@@ -1,4 +1,4 @@
-pub mod Bytes
-pub mod Pasting
-pub mod Places
-pub mod Points
+mod Bytes
+mod Pasting
+mod Places
+mod Points

@@ -18,7 +18,7 @@ off from z = unsigned_abs (z -ℤ from)
 pub off_below : (from : ℤ) (len : ℕ) (z : ℤ) → Lies from len z → off from z < len
 off_below from len z l = omega (arith, ints)
 
-pub off_part : (from : ℤ) (len : ℕ) (outer : ℤ) (outer_len : ℕ) → IsPart from len outer outer_len → off outer from + len ≤ outer_len
+off_part : (from : ℤ) (len : ℕ) (outer : ℤ) (outer_len : ℕ) → IsPart from len outer outer_len → off outer from + len ≤ outer_len
 off_part from len outer outer_len p = omega (arith, ints)
 
 -- the place of a point and what follows it to the right stay within the area
@@ -38,7 +38,9 @@ row_found a x y p ps row across up all on =
     rw (← at) (put_found a.w (off a.y y) (off a.x x) (off a.x p) ps row clear (omega arith) (omega arith) (omega arith))
 
 -- every other point keeps its pixel
-row_kept : (a : Area) (x y p q : ℤ) (ps row : List Channels) → IsPart x (length row) a.x a.w → Lies a.y a.h y → Holds a p q → ¬ Holds (area x y (length row) 1) p q
+row_kept :
+    (a : Area) (x y p q : ℤ) (ps row : List Channels) → IsPart x (length row) a.x a.w → Lies a.y a.h y
+    → Holds a p q → ¬ Holds (area x y (length row) 1) p q
     → pixel_of (bitmap a (put_chunk (place_of a x y) ps row)) p q ≡ pixel_of (bitmap a ps) p q
 unfolding place_in_box
 row_kept a x y p q ps row across up held apart =
@@ -55,7 +57,10 @@ row_kept a x y p q ps row across up held apart =
             rw same (elim (cases_lt (off a.x p) c) [
               | inl left ↦ put_left a.w r c (off a.x p) ps row clear left
               | inr not_left ↦ elim (cases_lt (off a.x p) (c + length row)) [
-                | inl on ↦ absurd (apart (record { across = record { least = omega (arith, ints); below = omega (arith, ints) }; up = record { least = omega (arith, ints); below = omega (arith, ints) } }))
+                | inl on ↦
+                    let across_row : Lies x (length row) p = record { least = omega (arith, ints); below = omega (arith, ints) } in
+                    let on_row : Lies y 1 q = record { least = omega (arith, ints); below = omega (arith, ints) } in
+                    absurd (apart (record { across = across_row; up = on_row }))
                 | inr right ↦ put_right a.w r c (off a.x p) ps row clear right
               ]
             ])
@@ -63,7 +68,9 @@ row_kept a x y p q ps row across up held apart =
     ]
 
 -- putting a row into the list sets its points
-pub sets_row : (old : Bitmap) (x y : ℤ) (row : List Channels) → IsPart x (length row) old.area.x old.area.w → Lies old.area.y old.area.h y → old.area.w * old.area.h ≡ length old.pixels
+pub sets_row :
+    (old : Bitmap) (x y : ℤ) (row : List Channels) → IsPart x (length row) old.area.x old.area.w
+    → Lies old.area.y old.area.h y → old.area.w * old.area.h ≡ length old.pixels
     → SetsRow old (bitmap old.area (put_chunk (place_of old.area x y) old.pixels row)) x y row
 sets_row old x y row across up all = record {
   same_area = refl;

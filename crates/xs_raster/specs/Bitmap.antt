@@ -2,7 +2,7 @@ use Rattle.std.specs.Prelude.{◌≡◌, ℕ, ◌*◌, ℤ, List, [], ◌∷◌,
 use Rattle.std.specs.Simd.Lanes.{Each1, chunk}
 use Rattle.xs_pixel.specs.Channels.{Channels, IsPixel, clear}
 use Rattle.xs_pixel.specs.Picture.{place_in_box}
-use Rattle.xs_pixel.specs.Rows.{pixels as pixels_in}
+use Rattle.xs_pixel.specs.PixelRows.{pixels as pixels_in}
 use Rattle.xs_rect.specs.Area.{Area}
 
 -- an area and its pixels, in rows from the lowest up and each from left to right

@@ -9,6 +9,7 @@ mod tile_ref;
 pub use raster::Raster;
 pub use tile::Tile;
 pub use tile_ref::TileRef;
+use xs_base::crosses_threads;
 
 /// Rasters, tiles and references to tiles may be sent to another thread, and shared with it.
 pub fn rasters_cross_threads() {
@@ -16,5 +17,3 @@ pub fn rasters_cross_threads() {
     crosses_threads::<Tile>();
     crosses_threads::<TileRef>();
 }
-
-fn crosses_threads<T: Send + Sync>() {}

@@ -1,7 +1,7 @@
 ghost use Rattle.std.specs.Prelude.{◌≡◌, ℕ, ◌+◌, ◌*◌, ◌/◌, ◌%◌, ◌<◌, ◌≤◌, length, IfOk, replicate};
 ghost use Rattle.std.specs.Simd.Lanes.{Each1, chunk, put_chunk};
 ghost use Rattle.xs_pixel.specs.Channels.{IsPixel, clear};
-ghost use Rattle.xs_pixel.specs.Rows.{pixels};
+ghost use Rattle.xs_pixel.specs.PixelRows.{pixels};
 ghost use Rattle.xs_rect.specs.Area.{IsPart, IsWithin, Holds, Lies};
 ghost use Rattle.xs_raster.specs.Bitmap.{Bitmap, bitmap, bytes_of, place_of, pixel_of, row_of, part_of};
 ghost use Rattle.xs_raster.specs.Changes.{SetsRow, Pastes};
@@ -9,8 +9,9 @@ ghost use Rattle.xs_raster.specs.Changes.{SetsRow, Pastes};
 use crate::tile::Tile;
 use std::alloc::{AllocError, Global};
 use std::marker::Model;
+use xs_base::Memory;
+use xs_pixel::Pixel;
 use xs_pixel::laws::rows_of_bytes_are_rows_of_pixels;
-use xs_pixel::{Memory, Pixel};
 use xs_rect::Rect;
 
 /// A rectangle of pixels. Its bytes are red, green, blue and matte of each pixel, in rows from the
@@ -22,7 +23,7 @@ pub struct Raster {
 }
 
 impl Model for Raster {
-    ghost use Rattle.xs_pixel.specs.Rows.{pixels};
+    ghost use Rattle.xs_pixel.specs.PixelRows.{pixels};
     ghost use Rattle.xs_raster.specs.Bitmap.{Bitmap, bitmap, IsRaster};
 
     ghost Value = { Bitmap };
@@ -59,7 +60,7 @@ impl Raster {
         self.rect
     }
 
-    /// The bytes of all rows.
+    /// The bytes of all rows, from the lowest up: four for each pixel.
     pub fn bytes(&self) -> &[u8]
         ensures exact { result.now ≡ bytes_of self.now.pixels }
         ensures pixels { pixels result.now ≡ self.now.pixels }
@@ -70,7 +71,7 @@ impl Raster {
         self.bytes.as_slice()
     }
 
-    /// The bytes of the row of points with this y.
+    /// The bytes of the row of points with this y, from left to right: four for each pixel.
     pub fn row(&self, y: i32) -> &[u8]
         requires { Lies self.now.area.y self.now.area.h y }
         ensures pixels { pixels result.now ≡ row_of self.now y }
@@ -88,7 +89,8 @@ impl Raster {
         Pixel::from_row(self.part(x, y, 1), 0)
     }
 
-    /// Sets the pixels from the point (x, y) to the right to those of the bytes. Takes no memory.
+    /// Sets the pixels from the point (x, y) to the right to those of the bytes, four for each pixel. Takes no
+    /// memory.
     pub fn put_row(&mut self, x: i32, y: i32, bytes: &[u8])
         requires whole { length bytes.now % 4 ≡ 0 }
         requires premultiplied { Each1 IsPixel (pixels bytes.now) }

@@ -5,7 +5,9 @@ use crate::raster::Raster;
 /// A raster with the number of the alias whose pixels it holds.
 #[derive(Debug, Drop)]
 pub struct Tile {
+    /// The number of the alias.
     pub alias: u32,
+    /// The pixels.
     pub raster: Raster,
 }
 

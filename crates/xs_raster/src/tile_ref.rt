@@ -4,7 +4,7 @@ use crate::tile::Tile;
 use std::alloc::Global;
 use std::marker::Model;
 use std::sync::Arc;
-use xs_pixel::Memory;
+use xs_base::Memory;
 
 /// One of several owners of a tile, which nobody changes any more. Contracts see it as the tile.
 #[derive(Drop)]

@@ -6,7 +6,7 @@ use lib.Lanes.{mask_l}
 use Rattle.std.proofs.lemmas.Bool.Decides.{nat_tests}
 use Rattle.std.proofs.lemmas.List.{drop-drop}
 use Rattle.xs_pixel.specs.Channels.{Channels}
-use Rattle.xs_pixel.specs.Rows.{pixels, mattes_of}
+use Rattle.xs_pixel.specs.PixelRows.{pixels, mattes_of}
 use Rattle.xs_rawfile.specs.Pixels.{exceeds}
 
 -- no colour exceeds the matte of a pixel where no bit is set for it
@@ -25,7 +25,9 @@ none_exceeds (r ∷ g ∷ b ∷ m ∷ xs) none =
     (rw (red, green, blue) refl, none_exceeds xs (omega (arith, none)))
 
 -- a search passes the items that aren't what it looks for
-search_passes : (n k : ℕ) (ps : List Channels) → Each1 (λ p. exceeds p ≡ false) (take n ps) → position_from exceeds k ps ≡ position_from exceeds (k + n) (drop n ps)
+search_passes :
+    (n k : ℕ) (ps : List Channels) → Each1 (λ p. exceeds p ≡ false) (take n ps)
+    → position_from exceeds k ps ≡ position_from exceeds (k + n) (drop n ps)
 search_passes zero k ps good = let same : k + 0 ≡ k = omega arith in rw same refl
 search_passes (suc n) k [] good = refl
 search_passes (suc n) k (p ∷ ps) good =
@@ -33,7 +35,9 @@ search_passes (suc n) k (p ∷ ps) good =
 
 -- the search goes on after a block in which no colour exceeds its matte
 pub search_block :
-    (xs : List ℕ) (p : ℕ) → ((k : ℕ) → pixels (drop (4 * k) xs) ≡ drop k (pixels xs)) → pixels (chunk (4 * p) 16 xs) ≡ chunk p 4 (pixels xs)
-    → Each1 (λ q. exceeds q ≡ false) (pixels (chunk (4 * p) 16 xs)) → position_from exceeds p (pixels (drop (4 * p) xs)) ≡ position_from exceeds (p + 4) (pixels (drop (4 * (p + 4)) xs))
+    (xs : List ℕ) (p : ℕ) → ((k : ℕ) → pixels (drop (4 * k) xs) ≡ drop k (pixels xs))
+    → pixels (chunk (4 * p) 16 xs) ≡ chunk p 4 (pixels xs)
+    → Each1 (λ q. exceeds q ≡ false) (pixels (chunk (4 * p) 16 xs))
+    → position_from exceeds p (pixels (drop (4 * p) xs)) ≡ position_from exceeds (p + 4) (pixels (drop (4 * (p + 4)) xs))
 search_block xs p rest part good =
     rw (rest p, rest (p + 4), ← drop-drop 4 p (pixels xs)) (search_passes 4 p (drop p (pixels xs)) (rw part at good))

@@ -17,15 +17,17 @@ use Rattle.xs_rawfile.specs.Level.{raw_of, number_at, first_of, first_fault, lac
 use Rattle.xs_rawfile.proofs.Scanning.{fills_from_none}
 
 -- where no code is given, the first test fails and no later one gives a code
-pub none_given : (b : Bool) (code : LevelCode) (rest : List (Bool × LevelCode)) (last : Option LevelCode) → first_of ((b, code) ∷ rest) last ≡ None → (b ≡ false) × (first_of rest last ≡ None)
+none_given :
+    (b : Bool) (code : LevelCode) (rest : List (Bool × LevelCode)) (last : Option LevelCode)
+    → first_of ((b, code) ∷ rest) last ≡ None → (b ≡ false) × (first_of rest last ≡ None)
 none_given true code rest last h = absurd cc
 none_given false code rest last h = (refl, h)
 
-pub side_from_test : (n : ℕ) → is_side n ≡ true → IsSide n
+side_from_test : (n : ℕ) → is_side n ≡ true → IsSide n
 side_from_test n h =
     let both = and_parts (nat_le 1 n) (nat_le n 4096) h in (grind (arith, nat_tests, both.0), grind (arith, nat_tests, both.1))
 
-pub place_from_test : (z : ℤ) → is_place z ≡ true → IsPlace z
+place_from_test : (z : ℤ) → is_place z ≡ true → IsPlace z
 place_from_test z h =
     let both = and_parts (int_le (neg_ℤ (pos 65536)) z) (int_le z (pos 65536)) h in (grind (arith, ints, both.0), grind (arith, ints, both.1))
 
@@ -33,7 +35,7 @@ nothing_mapped : {A B : Type 0} (f : A → B) (o : Option A) → option_map f o 
 nothing_mapped f None h = refl
 nothing_mapped f (Some x) h = absurd cc
 
-pub fills_from_no_fault : (kind : RawKind) (bytes : List ℕ) → Each1 (λ b. b ≤ 255) bytes → unmultiplied_fault kind bytes ≡ None → Fills kind bytes
+fills_from_no_fault : (kind : RawKind) (bytes : List ℕ) → Each1 (λ b. b ≤ 255) bytes → unmultiplied_fault kind bytes ≡ None → Fills kind bytes
 fills_from_no_fault Colour bytes bound h = fills_from_none 0 bytes bound (nothing_mapped _ _ h)
 fills_from_no_fault Cm32 bytes bound h = tt
 
@@ -51,7 +53,9 @@ sides bytes long h =
     let both = and_parts _ _ (not-false _ (rw there at h)) in
     (side_from_test _ both.0, side_from_test _ both.1)
 
-places : (bytes : List ℕ) → 21 ≤ length bytes → has_wrong_place bytes ≡ false → IsPlace (cast_signed w32 (number_at bytes 5)) × IsPlace (cast_signed w32 (number_at bytes 9))
+places :
+    (bytes : List ℕ) → 21 ≤ length bytes → has_wrong_place bytes ≡ false
+    → IsPlace (cast_signed w32 (number_at bytes 5)) × IsPlace (cast_signed w32 (number_at bytes 9))
 unfolding has_wrong_place
 places bytes long h =
     let there : nat_le 21 (length bytes) ≡ true = grind (arith, nat_tests) in

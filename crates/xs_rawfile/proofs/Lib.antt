@@ -1,6 +1,6 @@
-pub mod Blocks
-pub mod Boxes
-pub mod Faults
-pub mod Holding
-pub mod ReadBack
-pub mod Scanning
+mod Blocks
+mod Boxes
+mod Faults
+mod Holding
+mod ReadBack
+mod Scanning

@@ -13,7 +13,7 @@ use Rattle.xs_rawfile.proofs.Faults.{passes, long_enough}
 use Rattle.xs_rawfile.proofs.Scanning.{none_from_fills}
 
 -- four bytes give the number back
-pub number_of_four : (n : ℕ) → n < 4294967296 → n % 256 + 256 * (n / 256 % 256) + 65536 * (n / 65536 % 256) + 16777216 * (n / 16777216 % 256) ≡ n
+number_of_four : (n : ℕ) → n < 4294967296 → n % 256 + 256 * (n / 256 % 256) + 65536 * (n / 65536 % 256) + 16777216 * (n / 16777216 % 256) ≡ n
 number_of_four n small = omega arith
 
 place_fits : (z : ℤ) → IsPlace z → FitsSigned w32 z
@@ -24,15 +24,20 @@ below_word : (z : ℤ) → IsPlace z → of_z w32 z < 4294967296
 below_word (pos n) p = omega (arith, ints, p)
 below_word (negsuc n) p = omega (arith, ints, p)
 
-place_back : (z : ℤ) → IsPlace z → to_z w32 (of_z w32 z % 256 + 256 * (of_z w32 z / 256 % 256) + 65536 * (of_z w32 z / 65536 % 256) + 16777216 * (of_z w32 z / 16777216 % 256)) ≡ z
+place_back :
+    (z : ℤ) → IsPlace z
+    → to_z w32 (of_z w32 z % 256 + 256 * (of_z w32 z / 256 % 256) + 65536 * (of_z w32 z / 65536 % 256) + 16777216 * (of_z w32 z / 16777216 % 256)) ≡ z
 place_back z p = ap (to_z w32) (number_of_four (of_z w32 z) (below_word z p)) ∙ to_z-of_z w32 z (place_fits z p)
 
-same_raw : (x x' y y' : ℤ) (w w' h h' : ℕ) (kind : RawKind) (bytes : List ℕ) → x ≡ x' → y ≡ y' → w ≡ w' → h ≡ h' → raw x y w h kind bytes ≡ raw x' y' w' h' kind bytes
+same_raw :
+    (x x' y y' : ℤ) (w w' h h' : ℕ) (kind : RawKind) (bytes : List ℕ) → x ≡ x' → y ≡ y' → w ≡ w' → h ≡ h'
+    → raw x y w h kind bytes ≡ raw x' y' w' h' kind bytes
 same_raw x x' y y' w w' h h' kind bytes ex ey ew eh = rw (ex, ey, ew, eh)
 
 pub read_back : (d : Raw) → IsRaw d → raw_of d.kind (level_bytes d) ≡ d
 read_back d good =
-    same_raw _ d.x0 _ d.y0 _ d.w _ d.h d.kind d.bytes (place_back d.x0 good.place_x) (place_back d.y0 good.place_y) (number_of_four d.w (omega (arith, good.side_w))) (number_of_four d.h (omega (arith, good.side_h)))
+    same_raw _ d.x0 _ d.y0 _ d.w _ d.h d.kind d.bytes (place_back d.x0 good.place_x) (place_back d.y0 good.place_y)
+    (number_of_four d.w (omega (arith, good.side_w))) (number_of_four d.h (omega (arith, good.side_h)))
 
 side_test : (n : ℕ) → IsSide n → is_side n ≡ true
 side_test n s =
@@ -48,11 +53,15 @@ no_magic_lacks d = refl
 
 known_kind : (d : Raw) → has_unknown_kind (level_bytes d) ≡ false
 unfolding has_unknown_kind
-known_kind d = elim d.kind as (λ k. (nat_lt 4 (length (level_bytes d)) && nat_lt 1 (kind_byte k)) ≡ false) [ Colour ↦ grind (arith, nat_tests) | Cm32 ↦ grind (arith, nat_tests) ]
+known_kind d =
+    elim d.kind as (λ k. (nat_lt 4 (length (level_bytes d)) && nat_lt 1 (kind_byte k)) ≡ false)
+    [ Colour ↦ grind (arith, nat_tests) | Cm32 ↦ grind (arith, nat_tests) ]
 
 own_kind : (d : Raw) → has_other_kind d.kind (level_bytes d) ≡ false
 unfolding has_other_kind
-own_kind d = elim d.kind as (λ k. (nat_lt 4 (length (level_bytes d)) && not (kind_byte k == kind_byte k)) ≡ false) [ Colour ↦ grind (arith, nat_tests) | Cm32 ↦ grind (arith, nat_tests) ]
+own_kind d =
+    elim d.kind as (λ k. (nat_lt 4 (length (level_bytes d)) && not (kind_byte k == kind_byte k)) ≡ false)
+    [ Colour ↦ grind (arith, nat_tests) | Cm32 ↦ grind (arith, nat_tests) ]
 
 right_sides : (d : Raw) → IsRaw d → has_wrong_side (level_bytes d) ≡ false
 unfolding has_wrong_side
@@ -83,17 +92,6 @@ accepted d good =
     rw (no_magic_lacks d, known_kind d, own_kind d, right_sides d good, right_place d good, right_length d good) (no_fault_from_fills d.kind d.bytes good.fills)
 
 -- the number of four bytes gives them back
-four_back : (a b c d : ℕ) → a < 256 → b < 256 → c < 256 → d < 256
-    → four_bytes (of_z w32 (to_z w32 (a + 256 * b + 65536 * c + 16777216 * d))) ≡ a ∷ b ∷ c ∷ d ∷ []
-four_back a b c d la lb lc ld =
-    let n = a + 256 * b + 65536 * c + 16777216 * d in
-    let back : of_z w32 (to_z w32 n) ≡ n = of_z-to_z w32 n (omega arith) in
-    let p : n % 256 ≡ a = omega arith in
-    let q : n / 256 % 256 ≡ b = omega arith in
-    let r : n / 65536 % 256 ≡ c = omega arith in
-    let t : n / 16777216 % 256 ≡ d = omega arith in
-    rw (back, p, q, r, t)
-
 plain_back : (a b c d : ℕ) → a < 256 → b < 256 → c < 256 → d < 256 → four_bytes (a + 256 * b + 65536 * c + 16777216 * d) ≡ a ∷ b ∷ c ∷ d ∷ []
 plain_back a b c d la lb lc ld =
     let n = a + 256 * b + 65536 * c + 16777216 * d in
@@ -102,6 +100,12 @@ plain_back a b c d la lb lc ld =
     let r : n / 65536 % 256 ≡ c = omega arith in
     let t : n / 16777216 % 256 ≡ d = omega arith in
     rw (p, q, r, t)
+
+four_back : (a b c d : ℕ) → a < 256 → b < 256 → c < 256 → d < 256
+    → four_bytes (of_z w32 (to_z w32 (a + 256 * b + 65536 * c + 16777216 * d))) ≡ a ∷ b ∷ c ∷ d ∷ []
+four_back a b c d la lb lc ld =
+    let n = a + 256 * b + 65536 * c + 16777216 * d in
+    ap four_bytes (of_z-to_z w32 n (omega arith)) ∙ plain_back a b c d la lb lc ld
 
 joined : (k k' : ℕ) (xs xs' ys ys' ws ws' hs hs' rest : List ℕ) → k ≡ k' → xs ≡ xs' → ys ≡ ys' → ws ≡ ws' → hs ≡ hs'
     → magic ++ (k ∷ xs) ++ ys ++ ws ++ hs ++ rest ≡ magic ++ (k' ∷ xs') ++ ys' ++ ws' ++ hs' ++ rest
@@ -130,7 +134,10 @@ pub no_other : (kind : RawKind) (bytes : List ℕ) → Each1 (λ b. b < 256) byt
 no_other kind (m0 ∷ m1 ∷ m2 ∷ m3 ∷ k ∷ a0 ∷ a1 ∷ a2 ∷ a3 ∷ b0 ∷ b1 ∷ b2 ∷ b3 ∷ c0 ∷ c1 ∷ c2 ∷ c3 ∷ d0 ∷ d1 ∷ d2 ∷ d3 ∷ rest) bound h =
     let p = passes kind (m0 ∷ m1 ∷ m2 ∷ m3 ∷ k ∷ a0 ∷ a1 ∷ a2 ∷ a3 ∷ b0 ∷ b1 ∷ b2 ∷ b3 ∷ c0 ∷ c1 ∷ c2 ∷ c3 ∷ d0 ∷ d1 ∷ d2 ∷ d3 ∷ rest) h in
     let letters = begins m0 m1 m2 m3 _ p.magic in
-    let byte = kind_told kind (m0 ∷ m1 ∷ m2 ∷ m3 ∷ k ∷ a0 ∷ a1 ∷ a2 ∷ a3 ∷ b0 ∷ b1 ∷ b2 ∷ b3 ∷ c0 ∷ c1 ∷ c2 ∷ c3 ∷ d0 ∷ d1 ∷ d2 ∷ d3 ∷ rest) (omega arith) p.same_kind in
+    let byte =
+    kind_told kind (m0 ∷ m1 ∷ m2 ∷ m3 ∷ k ∷ a0 ∷ a1 ∷ a2 ∷ a3 ∷ b0 ∷ b1 ∷ b2 ∷ b3 ∷ c0 ∷ c1 ∷ c2 ∷ c3 ∷ d0 ∷ d1 ∷ d2 ∷ d3 ∷ rest)
+    (omega arith) p.same_kind
+    in
     let x = bound.1.1.1.1.1 in
     let y = x.1.1.1.1 in
     let w = y.1.1.1.1 in

@@ -7,7 +7,8 @@ use Rattle.std.proofs.lemmas.Bool.Decides.{nat_tests}
 use Rattle.std.proofs.lemmas.List.{drop-drop, get_or-drop, length-drop}
 use Rattle.std.proofs.lemmas.Simd.{Each1-from_get_or}
 use Rattle.xs_pixel.specs.Channels.{Channels, channels, IsPixel}
-use Rattle.xs_pixel.specs.Rows.{pixels}
+use Rattle.xs_pixel.specs.PixelRows.{pixels}
+use Rattle.xs_pixel.proofs.PixelRowLemmas.{pixels-short}
 use Rattle.xs_rawfile.specs.Pixels.{exceeds}
 
 -- a search that finds nothing passes its first item
@@ -16,29 +17,21 @@ head_passes true k rest h = absurd cc
 head_passes false k rest h = (refl, h)
 
 -- the first pixel and those after it
-pub pixels_next : (xs : List ℕ) → 4 ≤ length xs → pixels xs ≡ channels (get_or xs 0 0) (get_or xs 1 0) (get_or xs 2 0) (get_or xs 3 0) ∷ pixels (drop 4 xs)
+pixels_next : (xs : List ℕ) → 4 ≤ length xs → pixels xs ≡ channels (get_or xs 0 0) (get_or xs 1 0) (get_or xs 2 0) (get_or xs 3 0) ∷ pixels (drop 4 xs)
 pixels_next (r ∷ g ∷ b ∷ m ∷ xs) long = refl
 pixels_next [] long = absurd (omega arith)
 pixels_next (r ∷ []) long = absurd (omega arith)
 pixels_next (r ∷ g ∷ []) long = absurd (omega arith)
 pixels_next (r ∷ g ∷ b ∷ []) long = absurd (omega arith)
 
--- fewer than four bytes are no pixel
-pub pixels_short : (xs : List ℕ) → length xs < 4 → pixels xs ≡ []
-pixels_short [] short = refl
-pixels_short (r ∷ []) short = refl
-pixels_short (r ∷ g ∷ []) short = refl
-pixels_short (r ∷ g ∷ b ∷ []) short = refl
-pixels_short (r ∷ g ∷ b ∷ m ∷ xs) short = absurd (omega arith)
-
 -- a pixel is premultiplied where no colour exceeds its matte, which is a byte
-pub is_pixel : (p : Channels) → p.m ≤ 255 → exceeds p ≡ false → IsPixel p
+is_pixel : (p : Channels) → p.m ≤ 255 → exceeds p ≡ false → IsPixel p
 is_pixel p top h =
     let all = and_parts (nat_le p.r p.m) (nat_le p.g p.m && nat_le p.b p.m) (not-false _ h) in
     let two = and_parts (nat_le p.g p.m) (nat_le p.b p.m) all.1 in
     record { red = grind (arith, nat_tests, all.0); green = grind (arith, nat_tests, two.0); blue = grind (arith, nat_tests, two.1); top = top }
 
-pub exceeds_none : (p : Channels) → IsPixel p → exceeds p ≡ false
+exceeds_none : (p : Channels) → IsPixel p → exceeds p ≡ false
 exceeds_none p h =
     let r : nat_le p.r p.m ≡ true = grind (arith, nat_tests, h.red) in
     let g : nat_le p.g p.m ≡ true = grind (arith, nat_tests, h.green) in
@@ -65,7 +58,7 @@ bytes_from n xs fits =
     Each1-from_get_or (λ b. b ≤ 255) (drop n xs) 0 (λ i within. let f = fits (n + i) in rw get_or-drop (omega (arith, f.fits)))
 
 -- the pixel with number p of some bytes
-abbrev pub nth_pixel : List ℕ → ℕ → Channels
+abbrev nth_pixel : List ℕ → ℕ → Channels
 nth_pixel xs p =
     let rest = drop (4 * p) xs in channels (get_or rest 0 0) (get_or rest 1 0) (get_or rest 2 0) (get_or rest 3 0)
 
@@ -83,4 +76,4 @@ pub search_found : (xs : List ℕ) (p : ℕ) → 4 * p + 4 ≤ length xs → exc
 search_found xs p long bad = rw (at_pixel xs p long) (rw bad)
 
 pub search_end : (xs : List ℕ) (p : ℕ) → length xs < 4 * p + 4 → position_from exceeds p (pixels (drop (4 * p) xs)) ≡ None
-search_end xs p short = rw (pixels_short (drop (4 * p) xs) (omega (arith, length-drop (4 * p) xs)))
+search_end xs p short = rw (pixels-short (drop (4 * p) xs) (omega (arith, length-drop (4 * p) xs)))

@@ -1,10 +1,10 @@
 use Rattle.std.specs.Prelude.{◌≡◌, ℕ, ◌<◌, List, length, map, Option, Some, None, slice_get, slice_index_or, option_and_then, option_map, []}
-use Rattle.xs_cm32.specs.Rows.{words}
+use Rattle.xs_cm32.specs.WordRows.{words}
 use Rattle.xs_cm32.specs.Word.{colour_under}
 use Rattle.xs_palette.specs.Styles.{style_of}
 use Rattle.xs_pixel.specs.Channels.{Channels}
-use Rattle.xs_pixel.specs.Picture.{Picture, Content, Colours, Words}
-use Rattle.xs_pixel.specs.Rows.{pixels}
+use Rattle.xs_pixel.specs.Picture.{Picture, Content, Pixels, Words}
+use Rattle.xs_pixel.specs.PixelRows.{pixels}
 use Rattle.xs_rawfile.specs.declared.drawing.RawKind.{RawKind}
 use Rattle.xs_rawfile.specs.declared.drawing.RawKind.TheVariants.{Colour, Cm32}
 use Rattle.xs_rawfile.specs.Raw.{Raw, IsRaw}
@@ -22,14 +22,14 @@ abbrev pub IsIn : Held → ℕ → Raw → Option ℕ → Type 0
 IsIn h d g palette = slice_get h.slots d ≡ Some (Some (g, palette))
 
 -- a drawing may be held with this palette: a CM32 drawing has one, and it exists
-abbrev pub Names : List (List Channels) → RawKind → Option ℕ → Type 0
-Names palettes kind (Some p) = p < length palettes
-Names palettes Colour None = Unit {0}
-Names palettes Cm32 None = ⊥
+abbrev pub HasItsPalette : List (List Channels) → RawKind → Option ℕ → Type 0
+HasItsPalette palettes kind (Some p) = p < length palettes
+HasItsPalette palettes Colour None = Unit {0}
+HasItsPalette palettes Cm32 None = ⊥
 
 -- what the file of a drawing holds
 abbrev pub content_of : RawKind → List ℕ → Content
-content_of Colour bytes = Colours (pixels bytes)
+content_of Colour bytes = Pixels (pixels bytes)
 content_of Cm32 bytes = Words (words bytes)
 
 -- the pixels that are seen of it under the palette with this number
@@ -60,8 +60,10 @@ words_of g = words_by g.kind g.bytes
 -- pictures are told
 pub record IsHeld (pictures : Option (ℕ → Option Picture)) (h : Held) : Type 0 where
   pub raw : (d : ℕ) (g : Raw) (palette : Option ℕ) → IsIn h d g palette → IsRaw g
-  pub named : (d : ℕ) (g : Raw) (palette : Option ℕ) → IsIn h d g palette → Names h.palettes g.kind palette
-  pub filmed : (told : ℕ → Option Picture) → pictures ≡ Some told → (d : ℕ) (g : Raw) (palette : Option ℕ) → IsIn h d g palette → told d ≡ Some (picture_of h.palettes g palette)
+  pub named : (d : ℕ) (g : Raw) (palette : Option ℕ) → IsIn h d g palette → HasItsPalette h.palettes g.kind palette
+  pub filmed :
+      (told : ℕ → Option Picture) → pictures ≡ Some told → (d : ℕ) (g : Raw) (palette : Option ℕ)
+      → IsIn h d g palette → told d ≡ Some (picture_of h.palettes g palette)
 
 -- the drawing with this number and its palette, if it is held
 abbrev pub slot_in : Held → ℕ → Option (Raw × Option ℕ)

@@ -1,7 +1,8 @@
 use Rattle.std.specs.Prelude.{◌≡◌, ℕ, ◌*◌, ◌≤◌, nat_le, ℤ, pos, neg_ℤ, ◌≤ℤ◌, int_le, Bool, ◌&&◌, List, length}
+use Rattle.xs_base.specs.declared.limits.TheConstants.{LONGEST_DRAWING_SIDE, FARTHEST_CORNER}
 use Rattle.std.specs.Simd.Lanes.{Each1}
 use Rattle.xs_pixel.specs.Channels.{IsPixel}
-use Rattle.xs_pixel.specs.Rows.{pixels}
+use Rattle.xs_pixel.specs.PixelRows.{pixels}
 use Rattle.xs_rawfile.specs.declared.drawing.RawKind.{RawKind}
 use Rattle.xs_rawfile.specs.declared.drawing.RawKind.TheVariants.{Colour, Cm32}
 
@@ -20,17 +21,17 @@ raw x0 y0 w h kind bytes = record { x0 = x0; y0 = y0; w = w; h = h; kind = kind;
 
 -- a number of pixels that a side may have
 abbrev pub IsSide : ℕ → Type 0
-IsSide n = (1 ≤ n) × (n ≤ 4096)
+IsSide n = (1 ≤ n) × (n ≤ LONGEST_DRAWING_SIDE)
 
 abbrev pub is_side : ℕ → Bool
-is_side n = nat_le 1 n && nat_le n 4096
+is_side n = nat_le 1 n && nat_le n LONGEST_DRAWING_SIDE
 
 -- a place that the corner may have along an axis
 abbrev pub IsPlace : ℤ → Type 0
-IsPlace z = (neg_ℤ (pos 65536) ≤ℤ z) × (z ≤ℤ pos 65536)
+IsPlace z = (neg_ℤ (pos FARTHEST_CORNER) ≤ℤ z) × (z ≤ℤ pos FARTHEST_CORNER)
 
 abbrev pub is_place : ℤ → Bool
-is_place z = int_le (neg_ℤ (pos 65536)) z && int_le z (pos 65536)
+is_place z = int_le (neg_ℤ (pos FARTHEST_CORNER)) z && int_le z (pos FARTHEST_CORNER)
 
 -- the byte that stands for a kind
 abbrev pub kind_byte : RawKind → ℕ

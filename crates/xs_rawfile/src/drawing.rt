@@ -3,21 +3,17 @@ ghost use Rattle.xs_pixel.specs.Picture.{is_in_box, place_in_box, at_point, pixe
 ghost use Rattle.xs_rawfile.specs.Held.{plain_picture, words_of};
 ghost use Rattle.std.specs.Simd.Lanes.{Each1};
 ghost use Rattle.xs_pixel.specs.Channels.{IsPixel};
-ghost use Rattle.xs_pixel.specs.Rows.{pixels};
+ghost use Rattle.xs_pixel.specs.PixelRows.{pixels};
 ghost use Rattle.xs_rawfile.specs.Raw.{is_side, is_place, kind_byte, Raw, raw, IsRaw, IsSide, IsPlace, Fills};
 
 use crate::premultiplied::first_unmultiplied;
 use crate::shown::pixel_under;
 use std::marker::Model;
+use xs_base::List;
+use xs_base::limits::{FARTHEST_CORNER, LONGEST_DRAWING_SIDE};
 use xs_cm32::Cm32;
+use xs_pixel::Pixel;
 use xs_pixel::laws::points_of_a_box_have_places;
-use xs_pixel::{List, Pixel};
-
-/// The longest side of a drawing, in pixels.
-const LONGEST_SIDE: u32 = 4096;
-
-/// How far the corner of a drawing may lie from the origin along each axis, in pixels.
-const FARTHEST: i32 = 65_536;
 
 /// What the four bytes of a pixel are in a file.
 #[derive(Clone, Copy, Debug, PartialEq, Eq)]
@@ -219,7 +215,7 @@ pub(crate) fn is_side(side: u32) -> bool
     ensures test { result ≡ is_side side }
     ensures fact { IsTrue result ↔ IsSide side }
 {
-    1 <= side && side <= LONGEST_SIDE
+    1 <= side && side <= LONGEST_DRAWING_SIDE
 }
 
 /// Whether the corner of a drawing may lie at this place of an axis.
@@ -227,5 +223,6 @@ pub(crate) fn is_place(at: i32) -> bool
     ensures test { result ≡ is_place at }
     ensures fact { IsTrue result ↔ IsPlace at }
 {
-    -FARTHEST <= at && at <= FARTHEST
+    let farthest = FARTHEST_CORNER as i32;
+    -farthest <= at && at <= farthest
 }

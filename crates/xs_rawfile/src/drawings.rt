@@ -1,13 +1,14 @@
 ghost use Rattle.std.specs.Prelude.{◌≡◌, ℕ, ◌<◌, ◌↔◌, Option, None, Some, length, replicate, IfOk, IfSome, IsNone, IsSome, slice_get, slice_set};
-ghost use Rattle.xs_rawfile.specs.Held.{Held, held, IsHeld, Names, drawing_in, slot_in, picture_of};
+ghost use Rattle.xs_rawfile.specs.Held.{Held, held, IsHeld, HasItsPalette, drawing_in, slot_in, picture_of};
 ghost use Rattle.xs_pixel.specs.Picture.{Picture, pixel_at};
 
 use crate::drawing::Drawing;
 use crate::shown::pixel_under;
 use std::alloc::Global;
 use std::marker::{Model, PhantomData};
+use xs_base::{List, Memory, crosses_threads};
 use xs_palette::Palette;
-use xs_pixel::{Film, List, Memory, Pixel};
+use xs_pixel::{Film, Pixel};
 
 /// The drawings of a render that are held in memory, by number, and the palettes under which CM32
 /// drawings are seen. Where the film tells its pictures, each drawing that is held is its picture.
@@ -34,7 +35,7 @@ impl<K: Film> Drawings<K> {
         ensures { IfOk result (λ d. d ≡ held (replicate count None) palettes) }
     {
         let mut slots = Vec::with_capacity(alloc, count as usize)?;
-        'slots: for _slot in 0..count {
+        for _slot in 0..count {
             slots.push_reserved(None);
         }
         Ok(Drawings {
@@ -47,10 +48,11 @@ impl<K: Film> Drawings<K> {
     /// Holds a drawing under its number, with the number of its palette; a CM32 drawing needs one.
     pub fn set(&mut self, d: u32, g: Drawing, palette: Option<u32>)
         requires number { d < length self.old.slots }
-        requires palette { Names self.old.palettes g.kind palette }
+        requires palette { HasItsPalette self.old.palettes g.kind palette }
         requires film { (pictures : ℕ → Option Picture) → K.pictures ≡ Some pictures → pictures d ≡ Some (picture_of self.old.palettes g palette) }
         ensures { self.new ≡ held (slice_set self.old.slots d (Some (g, palette))) self.old.palettes }
     {
+        // That its bytes can be lent says that the drawing is one that a file may hold.
         g.bytes();
         self.slots[d as usize] = Some((g, palette));
     }
@@ -79,6 +81,7 @@ impl<K: Film> Drawings<K> {
     pub fn hold_their_pictures(&self)
         ensures { IsHeld K.pictures self.now }
     {
+        // To look at a field brings what all drawings that are held keep.
         let _slots = &self.slots;
     }
 
@@ -123,5 +126,3 @@ pub fn drawings_cross_threads<K: Film + Send + Sync>() {
     crosses_threads::<Drawing>();
     crosses_threads::<Drawings<K>>();
 }
-
-fn crosses_threads<T: Send + Sync>() {}

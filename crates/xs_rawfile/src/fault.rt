@@ -1,6 +1,6 @@
 ghost use Rattle.std.specs.Prelude.{◌≡◌};
 ghost use Rattle.xs_rawfile.specs.declared.fault.LevelFault.TheVariants.{Memory};
-ghost use Rattle.xs_rawfile.specs.Codes.{number_of};
+ghost use Rattle.xs_rawfile.specs.Codes.{level_code_number};
 
 use std::alloc::AllocError;
 
@@ -30,7 +30,7 @@ pub enum LevelCode {
 impl LevelCode {
     /// The number of the code, from 1 to 9.
     pub fn number(self) -> u32
-        ensures { result ≡ number_of self }
+        ensures { result ≡ level_code_number self }
     {
         match self {
             LevelCode::Magic => 1,

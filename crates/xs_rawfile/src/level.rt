@@ -9,7 +9,7 @@ use crate::drawing::{Drawing, RawKind, is_place, is_side};
 use crate::fault::{LevelCode, LevelFault};
 use crate::premultiplied::first_unmultiplied;
 use std::alloc::{AllocError, Global};
-use xs_pixel::{List, Memory};
+use xs_base::{List, Memory};
 
 /// How many bytes of a file come before its pixels.
 const HEADER: usize = 21;
@@ -69,6 +69,7 @@ pub fn level_format()
 {}
 
 /// The first fault of a file of a level of this kind.
+#[tactic(auto, unfolding(crate::specs::Level::first_fault))]
 fn fault_of(bytes: &[u8], kind: RawKind) -> Option<LevelCode>
     ensures { result ≡ first_fault kind bytes.now }
 {

@@ -1,5 +1,5 @@
 ghost use Rattle.std.specs.Prelude.{◌≡◌, ℕ, ◌+◌, ◌*◌, ◌<◌, ◌≤◌, length, slice_index_or, IfSome};
-ghost use Rattle.xs_cm32.specs.Rows.{words};
+ghost use Rattle.xs_cm32.specs.WordRows.{words};
 ghost use Rattle.xs_cm32.specs.Word.{colour_under};
 ghost use Rattle.xs_palette.specs.Styles.{style_of};
 ghost use Rattle.xs_pixel.specs.Channels.{clear};

@@ -1,3 +1,3 @@
-pub mod Areas
-pub mod Cuts
-pub mod Spans
+mod Areas
+mod Cuts
+mod Spans

@@ -18,7 +18,9 @@ overlap_within a b from a_len b_len len h =
     ((omega (arith, ints, clamps), omega (arith, ints, clamps)), (omega (arith, ints, clamps), omega (arith, ints, clamps)))
 
 -- it is in range where both rows are
-pub overlap_range : (a b from : ℤ) (a_len b_len len : ℕ) → IsNear a × IsSide a_len → IsNear b × IsSide b_len → IsOverlap a a_len b b_len from len → 1 ≤ len → IsNear from × IsSide len
+pub overlap_range :
+    (a b from : ℤ) (a_len b_len len : ℕ) → IsNear a × IsSide a_len → IsNear b × IsSide b_len
+    → IsOverlap a a_len b b_len from len → 1 ≤ len → IsNear from × IsSide len
 overlap_range a b from a_len b_len len first second h some =
     ((omega (arith, ints, clamps), omega (arith, ints, clamps)), (some, omega (arith, ints, clamps)))
 
@@ -34,5 +36,8 @@ overlap_common a b from a_len b_len len h z = (
 )
 
 -- two rows of which the lesser end does not pass the greater first place share none
-pub apart : (a b from end : ℤ) (a_len b_len : ℕ) → from ≡ int_max a b → end ≡ int_min (a +ℤ pos a_len) (b +ℤ pos b_len) → end ≤ℤ from → (z : ℤ) → Lies a a_len z → ¬ Lies b b_len z
+pub apart :
+    (a b from end : ℤ) (a_len b_len : ℕ) → from ≡ int_max a b
+    → end ≡ int_min (a +ℤ pos a_len) (b +ℤ pos b_len) → end ≤ℤ from → (z : ℤ) → Lies a a_len z
+    → ¬ Lies b b_len z
 apart a b from end a_len b_len start stop after z l m = omega (arith, ints, clamps)

@@ -1,4 +1,5 @@
 ghost use Rattle.std.specs.Prelude.{◌≡◌, ◌≤◌, ◌*◌, ◌<◌, IfOk};
+ghost use Rattle.xs_base.specs.declared.limits.TheConstants.{LONGEST_CAMERA_SIDE};
 ghost use Rattle.xs_rect.specs.Tiles.{tiles_along, tile_area, tile_areas, IsCut};
 
 use crate::rect::Rect;
@@ -10,8 +11,8 @@ const TILE_SIDE: u32 = 64;
 /// The tiles of a frame of `w` by `h` points whose lower left corner is the origin: 64 by 64 from that
 /// corner on, the last of a row or column smaller; from bottom to top, in each row left to right.
 pub fn tiles(alloc: Global, w: u32, h: u32) -> Result<Vec<Rect>, AllocError>
-    requires wide { (1 ≤ w) × (w ≤ 4096) }
-    requires high { (1 ≤ h) × (h ≤ 4096) }
+    requires wide { (1 ≤ w) × (w ≤ LONGEST_CAMERA_SIDE) }
+    requires high { (1 ≤ h) × (h ≤ LONGEST_CAMERA_SIDE) }
     ensures cut { IfOk result (λ tiles. IsCut w h tiles.items) }
     ensures each { IfOk result (λ tiles. tiles.items ≡ tile_areas w h) }
 {
@@ -21,8 +22,8 @@ pub fn tiles(alloc: Global, w: u32, h: u32) -> Result<Vec<Rect>, AllocError>
 
 /// The tiles of the frame, each by its number.
 fn all_tiles(alloc: Global, w: u32, h: u32) -> Result<Vec<Rect>, AllocError>
-    requires wide { (1 ≤ w) × (w ≤ 4096) }
-    requires high { (1 ≤ h) × (h ≤ 4096) }
+    requires wide { (1 ≤ w) × (w ≤ LONGEST_CAMERA_SIDE) }
+    requires high { (1 ≤ h) × (h ≤ LONGEST_CAMERA_SIDE) }
     ensures { IfOk result (λ tiles. tiles.items ≡ tile_areas w h) }
 {
     let count = w.div_ceil(TILE_SIDE) * h.div_ceil(TILE_SIDE);
@@ -31,8 +32,8 @@ fn all_tiles(alloc: Global, w: u32, h: u32) -> Result<Vec<Rect>, AllocError>
 
 /// The tile with number `k`.
 fn tile(w: u32, h: u32, k: u32) -> Rect
-    requires wide { (1 ≤ w) × (w ≤ 4096) }
-    requires high { (1 ≤ h) × (h ≤ 4096) }
+    requires wide { (1 ≤ w) × (w ≤ LONGEST_CAMERA_SIDE) }
+    requires high { (1 ≤ h) × (h ≤ LONGEST_CAMERA_SIDE) }
     requires within { k < tiles_along w * tiles_along h }
     ensures { result ≡ tile_area w h k }
 {

@@ -3,7 +3,7 @@ use Rattle.xs_pixel.specs.declared.style.Style.{Style}
 use Rattle.xs_scene.specs.declared.node.Node.{Node}
 use Rattle.xs_scene.specs.declared.node.Node.TheVariants.{Card}
 use Rattle.xs_scene.specs.Names.{IsName}
-use Rattle.xs_scene.specs.Ranges.{IsReference, IsCamera, IsStyleKey, IsKind, IsPegKey, IsExposure, IsSheet, IsScene}
+use Rattle.xs_scene.specs.Ranges.{IsReference, IsCamera, IsStyleKey, IsKind, IsPegKey, IsExposure, IsNode, IsSheet, IsScene}
 use Rattle.xs_scene.specs.Records.{StyleKeyRecord, ColoursRecord, LevelRecord, PegRecord, ColumnRecord, SheetRecord, SceneRecord}
 
 -- the ranges of a whole scene. In a contract a scene is a record of plain numbers, so a fact that needs
@@ -39,6 +39,9 @@ pub record ColumnInRange (column : ColumnRecord) : Type 0 where
 abbrev pub HasCardInRange : Node → Type 0
 HasCardInRange (Card style) = IsStyle style
 HasCardInRange _ = Unit {0}
+
+abbrev pub NodeInRange : Node → Type 0
+NodeInRange node = IsNode node × HasCardInRange node
 
 pub record SheetInRange (sheet : SheetRecord) : Type 0 where
   pub pegs : All PegInRange sheet.pegs

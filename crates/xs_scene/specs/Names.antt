@@ -1,4 +1,5 @@
 use Rattle.std.specs.Prelude.{◌≡◌, ◌||◌, ◌&&◌, ◌==◌, ℕ, Bool, true, false, List, length, slice_get, Option, Some, None, nat_le, not}
+use Rattle.xs_base.specs.declared.limits.TheConstants.{LONGEST_NAME}
 use Rattle.std.specs.List.{list_all}
 use Rattle.std.specs.Char.{is_ascii_alphanumeric}
 
@@ -11,10 +12,10 @@ abbrev pub begins_name : Option ℕ → Bool
 begins_name None = false
 begins_name (Some byte) = not (byte == 46) && not (byte == 32)
 
--- whether a text is a name: 1 to 200 such bytes, the first neither `.` nor a space, so that no name
+-- whether a text is a name: at least one such byte and at most `LONGEST_NAME`, the first neither `.` nor a space, so that no name
 -- leads out of the folder or is hidden there
 unfoldable pub is_name : List ℕ → Bool
-is_name text = begins_name (slice_get text 0) && nat_le (length text) 200 && list_all is_name_byte text
+is_name text = begins_name (slice_get text 0) && nat_le (length text) LONGEST_NAME && list_all is_name_byte text
 
 abbrev pub IsName : List ℕ → Type 0
 IsName text = is_name text ≡ true

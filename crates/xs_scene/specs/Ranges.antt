@@ -1,4 +1,5 @@
-use Rattle.std.specs.Prelude.{◌≡◌, ◌≤◌, ◌≤ℤ◌, ℕ, ℤ, pos, negsuc, false, List, [], Option, IfSome, All}
+use Rattle.std.specs.Prelude.{◌≡◌, ◌≤◌, ◌<◌, ◌≤ℤ◌, ℕ, ℤ, pos, neg_ℤ, false, List, [], Option, IfSome, All}
+use Rattle.xs_base.specs.declared.limits.TheConstants.{LAST_ROW, GREATEST_REFERENCE, LONGEST_CAMERA_SIDE, FARTHEST_OFFSET, STYLE_NUMBERS, GREATEST_RADIUS}
 use Rattle.xs_scene.specs.declared.level.Kind.{Kind}
 use Rattle.xs_scene.specs.declared.level.Kind.TheVariants.{Colour, Cm32}
 use Rattle.xs_scene.specs.declared.column.Shown.{Shown}
@@ -11,19 +12,19 @@ use Rattle.xs_scene.specs.Records.{StyleKeyRecord, ColoursRecord, CameraRecord, 
 
 -- a row of an exposure sheet; rows count from 1
 abbrev pub IsRow : ℕ → Type 0
-IsRow row = (1 ≤ row) × (row ≤ 9999)
+IsRow row = (1 ≤ row) × (row ≤ LAST_ROW)
 
 -- the number of a thing of the scene, whether or not there is such a thing
 abbrev pub IsReference : ℕ → Type 0
-IsReference number = number ≤ 1000000000
+IsReference number = number ≤ GREATEST_REFERENCE
 
 -- a side of the camera in pixels
 abbrev pub IsSide : ℕ → Type 0
-IsSide side = (1 ≤ side) × (side ≤ 4096)
+IsSide side = (1 ≤ side) × (side ≤ LONGEST_CAMERA_SIDE)
 
 -- an offset of a peg in pixels
 abbrev pub IsOffset : ℤ → Type 0
-IsOffset offset = (negsuc 65535 ≤ℤ offset) × (offset ≤ℤ pos 65536)
+IsOffset offset = (neg_ℤ (pos FARTHEST_OFFSET) ≤ℤ offset) × (offset ≤ℤ pos FARTHEST_OFFSET)
 
 pub record IsCamera (camera : CameraRecord) : Type 0 where
   pub w : IsSide camera.w
@@ -61,13 +62,13 @@ IsRef (target.Node number) = IsReference number
 
 -- a style that a palette filter can name
 abbrev pub IsFiltered : ℕ → Type 0
-IsFiltered style = style ≤ 4095
+IsFiltered style = style < STYLE_NUMBERS
 
 abbrev pub IsNode : Node → Type 0
 IsNode (Pair op first second) = IsRef first × IsRef second
 IsNode (Card style) = Unit {0}
 IsNode (Shuffle input rows) = IsRef input × All IsRow rows
-IsNode (Blur input radius) = IsRef input × (1 ≤ radius) × (radius ≤ 16)
+IsNode (Blur input radius) = IsRef input × (1 ≤ radius) × (radius ≤ GREATEST_RADIUS)
 IsNode (Keep input styles) = IsRef input × All IsFiltered styles
 IsNode (Delete input styles) = IsRef input × All IsFiltered styles
 

@@ -1,6 +1,8 @@
+use crate::in_range::each_in_range;
 use crate::range::{is_reference, is_row};
 use std::marker::Model;
-use xs_pixel::{List, Style};
+use xs_base::List;
+use xs_pixel::Style;
 
 /// A palette key: from its row on, a style of the palette has the colour `to`.
 #[derive(Clone, Copy, Debug, PartialEq, Eq)]
@@ -55,7 +57,11 @@ impl Model for Colours {
 
     ghost Value = { ColoursRecord };
 
+    ghost use Rattle.xs_scene.specs.InRange.{ColoursInRange};
+
     ghost view = { λ c. record { styles = c.styles; keys = c.keys } };
+
+    ghost invariant = { λ c. ColoursInRange (record { styles = c.styles; keys = c.keys }) };
 }
 
 impl Colours {
@@ -65,6 +71,8 @@ impl Colours {
     pub fn new(styles: List<Style>, keys: List<StyleKey>) -> Option<Colours>
         ensures { result ≡ Some (record { styles = styles; keys = keys }) }
     {
+        each_in_range(&styles);
+        each_in_range(&keys);
         Some(Colours { styles, keys })
     }
 

@@ -1,6 +1,7 @@
+use crate::in_range::each_in_range;
 use crate::range::{is_reference, is_reference_or_none, is_row};
 use std::marker::Model;
-use xs_pixel::List;
+use xs_base::List;
 
 /// What an exposure shows. Levels, drawings and sheets have numbers from 0.
 #[derive(Clone, Copy, Debug, PartialEq, Eq)]
@@ -77,16 +78,15 @@ pub struct Column {
 }
 
 impl Model for Column {
-    ghost use Rattle.std.specs.Prelude.{IfSome};
     ghost use Rattle.xs_scene.specs.Records.{ColumnRecord};
 
     ghost Value = { ColumnRecord };
 
-    ghost use Rattle.xs_scene.specs.Ranges.{IsReference};
+    ghost use Rattle.xs_scene.specs.InRange.{ColumnInRange};
 
     ghost view = { λ c. record { peg = c.peg; off = c.off; cells = c.cells } };
 
-    ghost invariant = { λ c. IfSome c.peg IsReference };
+    ghost invariant = { λ c. ColumnInRange (record { peg = c.peg; off = c.off; cells = c.cells }) };
 }
 
 impl Column {
@@ -99,6 +99,7 @@ impl Column {
         ensures { SomeIff result (IfSome peg IsReference) (record { peg = peg; off = off; cells = cells }) }
     {
         if is_reference_or_none(peg) {
+            each_in_range(&cells);
             Some(Column { peg, off, cells })
         } else {
             None

@@ -1,7 +1,8 @@
+use crate::in_range::each_in_range;
 use crate::name::Name;
 use crate::range::is_reference;
 use std::marker::Model;
-use xs_pixel::List;
+use xs_base::List;
 
 /// What the drawings of a level hold.
 #[derive(Clone, Copy, Debug, PartialEq, Eq)]
@@ -24,11 +25,11 @@ impl Model for Level {
 
     ghost Value = { LevelRecord };
 
-    ghost use Rattle.xs_scene.specs.Ranges.{IsKind};
+    ghost use Rattle.xs_scene.specs.InRange.{LevelInRange};
 
     ghost view = { λ l. record { kind = l.kind; drawings = l.drawings } };
 
-    ghost invariant = { λ l. IsKind l.kind };
+    ghost invariant = { λ l. LevelInRange (record { kind = l.kind; drawings = l.drawings }) };
 }
 
 impl Level {
@@ -40,6 +41,7 @@ impl Level {
         ensures { SomeIff result (IsKind kind) (record { kind = kind; drawings = drawings }) }
     {
         if kind.is_in_range() {
+            each_in_range(&drawings);
             Some(Level { kind, drawings })
         } else {
             None

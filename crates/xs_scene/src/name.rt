@@ -5,10 +5,8 @@ ghost use Rattle.xs_scene.specs.Names.{is_name_byte, begins_name, is_name, IsNam
 
 use std::alloc::Global;
 use std::marker::Model;
-use xs_pixel::Memory;
-
-/// The most bytes of a name.
-const LONGEST_NAME: usize = 200;
+use xs_base::Memory;
+use xs_base::limits::LONGEST_NAME;
 
 /// A name of a file of the working folder: 1 to 200 ASCII letters, digits, spaces, `_`, `-` and `.`, the
 /// first neither `.` nor a space.

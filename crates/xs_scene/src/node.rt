@@ -1,16 +1,29 @@
 ghost use Rattle.std.specs.Prelude.{◌↔◌, IsTrue, All};
 ghost use Rattle.xs_scene.specs.Ranges.{IsRow, IsFiltered};
 
-use crate::range::{GREATEST_RADIUS, MOST_STYLES, is_reference, is_row};
-use xs_pixel::{List, Op, Style};
+use crate::range::{is_reference, is_row};
+use xs_base::List;
+use xs_base::limits::{GREATEST_RADIUS, STYLE_NUMBERS};
+use xs_pixel::{Op, Style};
 
 /// A column or a node of the same sheet, by its number from 0.
-#[derive(Clone, Copy, Debug, PartialEq, Eq)]
+#[derive(Clone, Copy, Debug, PartialEq, Eq, Hash)]
 pub enum Ref {
     /// The column with this number, from the left.
     Column(u32),
     /// The node with this number.
     Node(u32),
+}
+
+/// The inputs of a node.
+#[derive(Clone, Copy, Debug, PartialEq, Eq)]
+pub enum Inputs {
+    /// No input.
+    Zero,
+    /// One input.
+    One(Ref),
+    /// Two inputs, the first the upper one.
+    Two { first: Ref, second: Ref },
 }
 
 /// A node of the schematic.
@@ -53,12 +66,34 @@ fn are_rows(list: &List<u32>) -> bool
 fn are_styles(list: &List<u32>) -> bool
     ensures { IsTrue result ↔ All IsFiltered list.now }
 {
-    list.items().iter().all(|&style| style < MOST_STYLES)
+    list.items().iter().all(|&style| style < STYLE_NUMBERS)
 }
 
 impl Node {
-    ghost use Rattle.std.specs.Prelude.{◌↔◌, IsTrue};
+    ghost use Rattle.std.specs.Prelude.{◌≡◌, ◌↔◌, IsTrue};
     ghost use Rattle.xs_scene.specs.Ranges.{IsNode, IsOldNode};
+    ghost use Rattle.xs_scene.specs.Inputs.{inputs_of_node};
+
+    /// The inputs of the node.
+    pub fn inputs(&self) -> Inputs
+        ensures { result ≡ inputs_of_node self.now }
+    {
+        match self {
+            Node::Pair {
+                op: _,
+                first,
+                second,
+            } => Inputs::Two {
+                first: *first,
+                second: *second,
+            },
+            Node::Card(_) => Inputs::Zero,
+            Node::Shuffle { input, list: _ } => Inputs::One(*input),
+            Node::Blur { input, radius: _ } => Inputs::One(*input),
+            Node::Keep { input, styles: _ } => Inputs::One(*input),
+            Node::Delete { input, styles: _ } => Inputs::One(*input),
+        }
+    }
 
     pub(crate) fn is_in_range(&self) -> bool
         ensures { IsTrue result ↔ IsNode self.now }

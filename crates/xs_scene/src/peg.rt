@@ -1,6 +1,7 @@
+use crate::in_range::each_in_range;
 use crate::range::{is_offset, is_reference_or_none, is_row};
 use std::marker::Model;
-use xs_pixel::List;
+use xs_base::List;
 
 /// From its row on, where a peg is set: an offset in whole pixels, each coordinate within 65,536 of 0.
 /// With `line` the peg moves on from here in a straight line to its next key.
@@ -52,16 +53,15 @@ pub struct Peg {
 }
 
 impl Model for Peg {
-    ghost use Rattle.std.specs.Prelude.{IfSome};
     ghost use Rattle.xs_scene.specs.Records.{PegRecord};
 
     ghost Value = { PegRecord };
 
-    ghost use Rattle.xs_scene.specs.Ranges.{IsReference};
+    ghost use Rattle.xs_scene.specs.InRange.{PegInRange};
 
     ghost view = { λ p. record { parent = p.parent; keys = p.keys } };
 
-    ghost invariant = { λ p. IfSome p.parent IsReference };
+    ghost invariant = { λ p. PegInRange (record { parent = p.parent; keys = p.keys }) };
 }
 
 impl Peg {
@@ -74,6 +74,7 @@ impl Peg {
         ensures { SomeIff result (IfSome parent IsReference) (record { parent = parent; keys = keys }) }
     {
         if is_reference_or_none(parent) {
+            each_in_range(&keys);
             Some(Peg { parent, keys })
         } else {
             None

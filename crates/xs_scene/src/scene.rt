@@ -7,7 +7,7 @@ use crate::level::Level;
 use crate::range::{is_reference_or_none, is_side};
 use crate::sheet::Sheet;
 use std::marker::Model;
-use xs_pixel::List;
+use xs_base::List;
 
 /// The part of the picture that is rendered: its sides in pixels, each 1 to 4096, and the peg of the
 /// first sheet that it hangs on, if any.
@@ -67,11 +67,11 @@ impl Model for Scene {
 
     ghost Value = { SceneRecord };
 
-    ghost use Rattle.xs_scene.specs.Ranges.{IsScene};
+    ghost use Rattle.xs_scene.specs.InRange.{IsInRange};
 
     ghost view = { λ s. record { format = s.format; camera = s.camera; palettes = s.palettes; levels = s.levels; sheets = s.sheets } };
 
-    ghost invariant = { λ s. IsScene s.format s.palettes s.sheets };
+    ghost invariant = { λ s. IsInRange (record { format = s.format; camera = s.camera; palettes = s.palettes; levels = s.levels; sheets = s.sheets }) };
 }
 
 fn have_no_keys(palettes: &List<Colours>) -> bool
@@ -117,6 +117,10 @@ impl Scene {
             (record { format = format; camera = camera; palettes = palettes; levels = levels; sheets = sheets }) }
     {
         if format == 2 || format == 1 && is_plain(&palettes, &sheets) {
+            camera.in_range();
+            each_in_range(&palettes);
+            each_in_range(&levels);
+            each_in_range(&sheets);
             Some(Scene {
                 format,
                 camera,
@@ -137,14 +141,12 @@ impl Scene {
         self
     }
 
-    /// Each number of the scene is in its range, at every level. Nothing is done but to tell it to
-    /// contracts, which see a scene as a record of plain numbers.
+    /// Each number of the scene is in its range, at every level: the type keeps it. Nothing is done but to
+    /// tell it to contracts, which see a scene as a record of plain numbers.
     pub fn in_range(&self)
         ensures { IsInRange self.now }
     {
-        self.camera.in_range();
-        each_in_range(&self.palettes);
-        each_in_range(&self.levels);
-        each_in_range(&self.sheets);
+        // to look at a field brings what the type keeps
+        let _ = &self.format;
     }
 }

@@ -2,10 +2,11 @@ ghost use Rattle.std.specs.Prelude.{◌↔◌, IsTrue, IfSome, All};
 ghost use Rattle.xs_scene.specs.Ranges.{IsNode, IsRef};
 
 use crate::column::Column;
+use crate::in_range::each_in_range;
 use crate::node::{Node, Ref};
 use crate::peg::Peg;
 use std::marker::Model;
-use xs_pixel::List;
+use xs_base::List;
 
 /// An exposure sheet: its pegs, its columns from left to right, the nodes of its schematic, and what is
 /// rendered of it from bottom to top. Without `out` that is every column that is not off.
@@ -22,11 +23,11 @@ impl Model for Sheet {
 
     ghost Value = { SheetRecord };
 
-    ghost use Rattle.xs_scene.specs.Ranges.{IsSheet};
+    ghost use Rattle.xs_scene.specs.InRange.{SheetInRange};
 
     ghost view = { λ s. record { pegs = s.pegs; columns = s.columns; nodes = s.nodes; out = s.out } };
 
-    ghost invariant = { λ s. IsSheet s.nodes s.out };
+    ghost invariant = { λ s. SheetInRange (record { pegs = s.pegs; columns = s.columns; nodes = s.nodes; out = s.out }) };
 }
 
 fn are_nodes_in_range(nodes: &List<Node>) -> bool
@@ -60,6 +61,9 @@ impl Sheet {
             (record { pegs = pegs; columns = columns; nodes = nodes; out = out }) }
     {
         if are_nodes_in_range(&nodes) && is_out_in_range(&out) {
+            each_in_range(&pegs);
+            each_in_range(&columns);
+            each_in_range(&nodes);
             Some(Sheet {
                 pegs,
                 columns,

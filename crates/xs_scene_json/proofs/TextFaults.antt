@@ -3,14 +3,15 @@ use Rattle.std.proofs.Common.{◌≡◌, ◌+◌, ℕ, ℤ, Bool, true, false, L
 use Rattle.serde_json.specs.Data.{Data, Items, no_items, item, Members}
 use Rattle.serde_json.specs.Events.{items_len}
 use Rattle.serde_json.specs.Find.{as_object, as_array, at as item_at}
-use Rattle.xs_json.specs.declared.code.SceneCode.{SceneCode}
-use Rattle.xs_json.specs.declared.code.SceneCode.TheVariants as code
-use Rattle.xs_json.specs.declared.fault.SceneFault.{SceneFault}
-use Rattle.xs_json.specs.declared.field.Field.{Field}
-use Rattle.xs_json.specs.declared.field.Field.TheVariants as f
-use Rattle.xs_json.specs.Paths.{index_at}
-use Rattle.xs_json.specs.Reading.{Reading, ◌>>=◌, fault, or_fault}
-use Rattle.xs_json.specs.Objects.{has, has_only, has_any, path_of, value_of, first_missing, told_missing, none_missing, object_at, whole_at, text_at, flag_at}
+use Rattle.xs_fault.specs.declared.code.SceneCode.{SceneCode}
+use Rattle.xs_fault.specs.declared.code.SceneCode.TheVariants as code
+use Rattle.xs_fault.specs.declared.fault.SceneFault.{SceneFault}
+use Rattle.xs_fault.specs.declared.field.Field.{Field}
+use Rattle.xs_fault.specs.declared.field.Field.TheVariants as f
+use Rattle.xs_fault.specs.Paths.{index_at}
+use Rattle.xs_json.specs.Parsing.{Parsed, ◌>>=◌, fault, or_fault}
+use Rattle.xs_json.specs.Objects.{has, has_only, has_any, value_of, first_missing, told_missing, none_missing, object_at, whole_at, text_at, flag_at}
+use Rattle.xs_fault.specs.Paths.{path_of}
 use Rattle.xs_pixel.specs.declared.operation.Op.{Op}
 use Rattle.xs_scene.specs.Names.{is_name}
 use Rattle.xs_scene_text.specs.declared.work.Work.{Work}
@@ -20,7 +21,7 @@ use Rattle.xs_scene_text.specs.SceneText.{is_newer, peg_key_fields, scene_fields
 use Rattle.xs_scene_json.specs.Faults.{is_text_code}
 
 -- a reading whose fault has a code of a text
-pub record OfText {A : Type 0} (reading : Reading A) : Type 0 where
+pub record OfText {A : Type 0} (reading : Parsed A) : Type 0 where
   pub at : (f : SceneFault) → reading ≡ Err f → is_text_code f.code ≡ true
 
 ok_of_text : {A : Type 0} {x : A} → OfText (Ok x)
@@ -33,11 +34,11 @@ or_of_text : {A : Type 0} (o : Option A) (code : SceneCode) (at : List ℕ) → 
 or_of_text (Some x) code at holds = ok_of_text
 or_of_text None code at holds = fault_of_text holds
 
-then_of_text : {A B : Type 0} {first : Reading A} {next : A → Reading B} → OfText first → ((x : A) → OfText (next x)) → OfText (first >>= next)
+then_of_text : {A B : Type 0} {first : Parsed A} {next : A → Parsed B} → OfText first → ((x : A) → OfText (next x)) → OfText (first >>= next)
 then_of_text {first = Ok x} a b = b x
 then_of_text {first = Err e} a b = record { at = λ f is. a.at f (let same : e ≡ f = cc in ap Err same) }
 
-if_of_text : {A : Type 0} (t : Bool) {first second : Reading A} → OfText first → OfText second → OfText (if t then first else second)
+if_of_text : {A : Type 0} (t : Bool) {first second : Parsed A} → OfText first → OfText second → OfText (if t then first else second)
 if_of_text true a b = a
 if_of_text false a b = b
 
@@ -52,7 +53,9 @@ missing_of_text needed at ms = told_of_text (first_missing needed ms) at ms
 
 object_of_text : (keys needed : List Field) (at : List ℕ) (d : Data) → OfText (object_at keys needed at d)
 object_of_text keys needed at d =
-    then_of_text (or_of_text _ _ _ refl) (λ ms. then_of_text (if_of_text (has_only keys ms) ok_of_text (fault_of_text refl)) (λ known. missing_of_text needed at known))
+    then_of_text (or_of_text _ _ _ refl)
+    (λ ms. then_of_text (if_of_text (has_only keys ms) ok_of_text (fault_of_text refl))
+    (λ known. missing_of_text needed at known))
 
 whole_of_text : (least most : ℤ) (at : List ℕ) (d : Data) → OfText (whole_at least most at d)
 whole_of_text least most at d =
@@ -61,7 +64,7 @@ whole_of_text least most at d =
 
 -- ---- fields
 
-module _ {A : Type 0} {reading : List ℕ → Data → Reading A} (holds : (at : List ℕ) (d : Data) → OfText (reading at d)) where
+module _ {A : Type 0} {reading : List ℕ → Data → Parsed A} (holds : (at : List ℕ) (d : Data) → OfText (reading at d)) where
   field_of_text : (k : Field) (at : List ℕ) (ms : Members) → OfText (field k reading at ms)
   field_of_text k at ms = then_of_text (or_of_text _ _ _ refl) (λ d. holds (path_of k at) d)
 
@@ -81,7 +84,8 @@ module _ {A : Type 0} {reading : List ℕ → Data → Reading A} (holds : (at :
 
   each_of_text : (at : List ℕ) (i : ℕ) (ds : Items) → OfText (each_at reading at i ds)
   each_of_text at i no_items = ok_of_text
-  each_of_text at i (item d ds) = then_of_text (holds _ d) (λ x. then_of_text (each_of_text at (i + 1) ds) (λ xs. ok_of_text))
+  each_of_text at i (item d ds) = then_of_text (holds _ d)
+      (λ x. then_of_text (each_of_text at (i + 1) ds) (λ xs. ok_of_text))
 
   list_of_text : (at : List ℕ) (d : Data) → OfText (list_of reading at d)
   list_of_text at d = then_of_text (or_of_text _ _ _ refl) (λ ds. each_of_text at 0 ds)
@@ -90,7 +94,9 @@ none_of_text : (code : SceneCode) (barred : List Field) (at : List ℕ) (ms : Me
 none_of_text code barred at ms holds = if_of_text (has_any barred ms) (fault_of_text holds) ok_of_text
 
 form_of_text : (barred needed : List Field) (at : List ℕ) (ms : Members) → OfText (form_at barred needed at ms)
-form_of_text barred needed at ms = then_of_text (none_of_text code.UnknownKey barred at ms refl) (λ allowed. missing_of_text needed at allowed)
+form_of_text barred needed at ms =
+    then_of_text (none_of_text code.UnknownKey barred at ms refl)
+    (λ allowed. missing_of_text needed at allowed)
 
 number_of_text : (least most : ℕ) (at : List ℕ) (d : Data) → OfText (number_at least most at d)
 number_of_text least most at d =
@@ -111,7 +117,10 @@ flag_of_text at d = or_of_text _ _ _ refl
 camera_of_text : (at : List ℕ) (d : Data) → OfText (camera_at at d)
 unfolding camera_at
 camera_of_text at d =
-    then_of_text (object_of_text (f.W ∷ f.H ∷ f.Peg ∷ []) (f.W ∷ f.H ∷ []) at d) (λ ms. then_of_text (field_of_text (number_of_text 1 4096) f.W at ms) (λ w. then_of_text (field_of_text (number_of_text 1 4096) f.H at ms) (λ h. then_of_text (optional_of_text (number_of_text 0 1000000000) f.Peg at ms) (λ peg. ok_of_text))))
+    then_of_text (object_of_text (f.W ∷ f.H ∷ f.Peg ∷ []) (f.W ∷ f.H ∷ []) at d)
+    (λ ms. then_of_text (field_of_text (number_of_text 1 4096) f.W at ms)
+    (λ w. then_of_text (field_of_text (number_of_text 1 4096) f.H at ms)
+    (λ h. then_of_text (optional_of_text (number_of_text 0 1000000000) f.Peg at ms) (λ peg. ok_of_text))))
 
 channel_of_text : (i : ℕ) (at : List ℕ) (d : Data) → OfText (channel_at i at d)
 channel_of_text i at d =
@@ -119,16 +128,25 @@ channel_of_text i at d =
 
 four_of_text : (at : List ℕ) (d : Data) → OfText (four_at at d)
 four_of_text at d =
-    then_of_text (or_of_text (as_array d) code.WrongKind at refl) (λ ds. if_of_text (items_len ds == 4) ok_of_text (fault_of_text refl))
+    then_of_text (or_of_text (as_array d) code.WrongKind at refl)
+    (λ ds. if_of_text (items_len ds == 4) ok_of_text (fault_of_text refl))
 
 style_of_text : (at : List ℕ) (d : Data) → OfText (style_at at d)
 unfolding style_at
-style_of_text at d = then_of_text (four_of_text at d) (λ four. then_of_text (channel_of_text 0 at d) (λ r. then_of_text (channel_of_text 1 at d) (λ g. then_of_text (channel_of_text 2 at d) (λ b. then_of_text (channel_of_text 3 at d) (λ a. ok_of_text)))))
+style_of_text at d =
+    then_of_text (four_of_text at d)
+    (λ four. then_of_text (channel_of_text 0 at d)
+    (λ r. then_of_text (channel_of_text 1 at d)
+    (λ g. then_of_text (channel_of_text 2 at d)
+    (λ b. then_of_text (channel_of_text 3 at d) (λ a. ok_of_text)))))
 
 style_key_of_text : (at : List ℕ) (d : Data) → OfText (style_key_at at d)
 unfolding style_key_at
 style_key_of_text at d =
-    then_of_text (object_of_text (f.Row ∷ f.Style ∷ f.Rgba ∷ []) (f.Row ∷ f.Style ∷ f.Rgba ∷ []) at d) (λ ms. then_of_text (field_of_text (number_of_text 1 9999) f.Row at ms) (λ row. then_of_text (field_of_text (number_of_text 0 1000000000) f.Style at ms) (λ style. then_of_text (field_of_text style_of_text f.Rgba at ms) (λ to. ok_of_text))))
+    then_of_text (object_of_text (f.Row ∷ f.Style ∷ f.Rgba ∷ []) (f.Row ∷ f.Style ∷ f.Rgba ∷ []) at d)
+    (λ ms. then_of_text (field_of_text (number_of_text 1 9999) f.Row at ms)
+    (λ row. then_of_text (field_of_text (number_of_text 0 1000000000) f.Style at ms)
+    (λ style. then_of_text (field_of_text style_of_text f.Rgba at ms) (λ to. ok_of_text))))
 
 plain_of_text : (at : List ℕ) (d : Data) → OfText (plain_palette_at at d)
 unfolding plain_palette_at
@@ -138,7 +156,9 @@ plain_of_text at d =
 keyed_of_text : (at : List ℕ) (d : Data) → OfText (keyed_palette_at at d)
 unfolding keyed_palette_at
 keyed_of_text at d =
-    then_of_text (object_of_text (f.Styles ∷ f.Keys ∷ []) (f.Styles ∷ []) at d) (λ ms. then_of_text (field_of_text (list_of_text style_of_text) f.Styles at ms) (λ styles. then_of_text (field_or_of_text (list_of_text style_key_of_text) [] f.Keys at ms) (λ keys. ok_of_text)))
+    then_of_text (object_of_text (f.Styles ∷ f.Keys ∷ []) (f.Styles ∷ []) at d)
+    (λ ms. then_of_text (field_of_text (list_of_text style_of_text) f.Styles at ms)
+    (λ styles. then_of_text (field_or_of_text (list_of_text style_key_of_text) [] f.Keys at ms) (λ keys. ok_of_text)))
 
 palette_of_text : (format : ℕ) (at : List ℕ) (d : Data) → OfText (palette_at format at d)
 palette_of_text format at d =
@@ -166,7 +186,10 @@ kind_of_text false at ms =
 level_of_text : (at : List ℕ) (d : Data) → OfText (level_at at d)
 unfolding level_at
 level_of_text at d =
-    then_of_text (object_of_text (f.Kind ∷ f.Palette ∷ f.Drawings ∷ []) (f.Kind ∷ f.Drawings ∷ []) at d) (λ ms. then_of_text (field_of_text cm32_of_text f.Kind at ms) (λ cm32. then_of_text (kind_of_text cm32 at ms) (λ kind. then_of_text (field_of_text (list_of_text name_of_text) f.Drawings at ms) (λ drawings. ok_of_text))))
+    then_of_text (object_of_text (f.Kind ∷ f.Palette ∷ f.Drawings ∷ []) (f.Kind ∷ f.Drawings ∷ []) at d)
+    (λ ms. then_of_text (field_of_text cm32_of_text f.Kind at ms)
+    (λ cm32. then_of_text (kind_of_text cm32 at ms)
+    (λ kind. then_of_text (field_of_text (list_of_text name_of_text) f.Drawings at ms) (λ drawings. ok_of_text))))
 
 moves_of_text : (at : List ℕ) (d : Data) → OfText (moves_only at d)
 moves_of_text at d =
@@ -179,22 +202,33 @@ line_of_text format at ms =
 peg_key_of_text : (format : ℕ) (at : List ℕ) (d : Data) → OfText (peg_key_at format at d)
 unfolding peg_key_at
 peg_key_of_text format at d =
-    then_of_text (moves_of_text at d) (λ moving. then_of_text (object_of_text (peg_key_fields format) (f.Row ∷ f.X ∷ f.Y ∷ []) at d) (λ ms. then_of_text (field_of_text (number_of_text 1 9999) f.Row at ms) (λ row. then_of_text (field_of_text offset_of_text f.X at ms) (λ x. then_of_text (field_of_text offset_of_text f.Y at ms) (λ y. then_of_text (line_of_text format at ms) (λ line. ok_of_text))))))
+    then_of_text (moves_of_text at d)
+    (λ moving. then_of_text (object_of_text (peg_key_fields format) (f.Row ∷ f.X ∷ f.Y ∷ []) at d)
+    (λ ms. then_of_text (field_of_text (number_of_text 1 9999) f.Row at ms)
+    (λ row. then_of_text (field_of_text offset_of_text f.X at ms)
+    (λ x. then_of_text (field_of_text offset_of_text f.Y at ms)
+    (λ y. then_of_text (line_of_text format at ms) (λ line. ok_of_text))))))
 
 peg_of_text : (format : ℕ) (at : List ℕ) (d : Data) → OfText (peg_at format at d)
 unfolding peg_at
 peg_of_text format at d =
-    then_of_text (object_of_text (f.Parent ∷ f.Keys ∷ []) [] at d) (λ ms. then_of_text (optional_of_text (number_of_text 0 1000000000) f.Parent at ms) (λ parent. then_of_text (field_or_of_text (list_of_text (peg_key_of_text format)) [] f.Keys at ms) (λ keys. ok_of_text)))
+    then_of_text (object_of_text (f.Parent ∷ f.Keys ∷ []) [] at d)
+    (λ ms. then_of_text (optional_of_text (number_of_text 0 1000000000) f.Parent at ms)
+    (λ parent. then_of_text (field_or_of_text (list_of_text (peg_key_of_text format)) [] f.Keys at ms) (λ keys. ok_of_text)))
 
 shown_sheet_of_text : (at : List ℕ) (ms : Members) → OfText (shown_sheet_at at ms)
 unfolding shown_sheet_at
 shown_sheet_of_text at ms =
-    then_of_text (form_of_text (f.Level ∷ f.Drawing ∷ []) (f.Start ∷ []) at ms) (λ form. then_of_text (field_of_text (number_of_text 0 1000000000) f.Sheet at ms) (λ sheet. then_of_text (field_of_text (number_of_text 1 9999) f.Start at ms) (λ start. ok_of_text)))
+    then_of_text (form_of_text (f.Level ∷ f.Drawing ∷ []) (f.Start ∷ []) at ms)
+    (λ form. then_of_text (field_of_text (number_of_text 0 1000000000) f.Sheet at ms)
+    (λ sheet. then_of_text (field_of_text (number_of_text 1 9999) f.Start at ms) (λ start. ok_of_text)))
 
 shown_drawing_of_text : (at : List ℕ) (ms : Members) → OfText (shown_drawing_at at ms)
 unfolding shown_drawing_at
 shown_drawing_of_text at ms =
-    then_of_text (form_of_text (f.Start ∷ []) (f.Level ∷ f.Drawing ∷ []) at ms) (λ form. then_of_text (field_of_text (number_of_text 0 1000000000) f.Level at ms) (λ level. then_of_text (field_of_text (number_of_text 0 1000000000) f.Drawing at ms) (λ drawing. ok_of_text)))
+    then_of_text (form_of_text (f.Start ∷ []) (f.Level ∷ f.Drawing ∷ []) at ms)
+    (λ form. then_of_text (field_of_text (number_of_text 0 1000000000) f.Level at ms)
+    (λ level. then_of_text (field_of_text (number_of_text 0 1000000000) f.Drawing at ms) (λ drawing. ok_of_text)))
 
 shown_of_text : (at : List ℕ) (ms : Members) → OfText (shown_at at ms)
 shown_of_text at ms =
@@ -203,17 +237,24 @@ shown_of_text at ms =
 cell_of_text : (at : List ℕ) (d : Data) → OfText (cell_at at d)
 unfolding cell_at
 cell_of_text at d =
-    then_of_text (object_of_text (f.From ∷ f.To ∷ f.Level ∷ f.Drawing ∷ f.Sheet ∷ f.Start ∷ []) (f.From ∷ f.To ∷ []) at d) (λ ms. then_of_text (field_of_text (number_of_text 1 9999) f.From at ms) (λ from. then_of_text (field_of_text (number_of_text from 9999) f.To at ms) (λ to. then_of_text (shown_of_text at ms) (λ shown. ok_of_text))))
+    then_of_text (object_of_text (f.From ∷ f.To ∷ f.Level ∷ f.Drawing ∷ f.Sheet ∷ f.Start ∷ []) (f.From ∷ f.To ∷ []) at d)
+    (λ ms. then_of_text (field_of_text (number_of_text 1 9999) f.From at ms)
+    (λ from. then_of_text (field_of_text (number_of_text from 9999) f.To at ms)
+    (λ to. then_of_text (shown_of_text at ms) (λ shown. ok_of_text))))
 
 column_of_text : (at : List ℕ) (d : Data) → OfText (column_at at d)
 unfolding column_at
 column_of_text at d =
-    then_of_text (object_of_text (f.Peg ∷ f.Off ∷ f.Cells ∷ []) (f.Cells ∷ []) at d) (λ ms. then_of_text (optional_of_text (number_of_text 0 1000000000) f.Peg at ms) (λ peg. then_of_text (field_or_of_text flag_of_text false f.Off at ms) (λ off. then_of_text (field_of_text (list_of_text cell_of_text) f.Cells at ms) (λ cells. ok_of_text))))
+    then_of_text (object_of_text (f.Peg ∷ f.Off ∷ f.Cells ∷ []) (f.Cells ∷ []) at d)
+    (λ ms. then_of_text (optional_of_text (number_of_text 0 1000000000) f.Peg at ms)
+    (λ peg. then_of_text (field_or_of_text flag_of_text false f.Off at ms)
+    (λ off. then_of_text (field_of_text (list_of_text cell_of_text) f.Cells at ms) (λ cells. ok_of_text))))
 
 node_number_of_text : (at : List ℕ) (ms : Members) → OfText (node_number_at at ms)
 unfolding node_number_at
 node_number_of_text at ms =
-    then_of_text (none_of_text code.UnknownKey (f.Column ∷ []) at ms refl) (λ alone. then_of_text (field_of_text (number_of_text 0 1000000000) f.Node at ms) (λ number. ok_of_text))
+    then_of_text (none_of_text code.UnknownKey (f.Column ∷ []) at ms refl)
+    (λ alone. then_of_text (field_of_text (number_of_text 0 1000000000) f.Node at ms) (λ number. ok_of_text))
 
 column_number_of_text : (at : List ℕ) (ms : Members) → OfText (column_number_at at ms)
 unfolding column_number_at
@@ -222,32 +263,43 @@ column_number_of_text at ms =
 
 ref_of_text : (at : List ℕ) (d : Data) → OfText (ref_at at d)
 unfolding ref_at
-ref_of_text at d = then_of_text (object_of_text (f.Column ∷ f.Node ∷ []) [] at d) (λ ms. if_of_text (has f.Node ms) (node_number_of_text at ms) (column_number_of_text at ms))
+ref_of_text at d =
+    then_of_text (object_of_text (f.Column ∷ f.Node ∷ []) [] at d)
+    (λ ms. if_of_text (has f.Node ms) (node_number_of_text at ms) (column_number_of_text at ms))
 
 pair_of_text : (op : Op) (at : List ℕ) (d : Data) → OfText (pair_at op at d)
 unfolding pair_at
 pair_of_text op at d =
-    then_of_text (object_of_text (f.Op ∷ f.First ∷ f.Second ∷ []) (f.Op ∷ f.First ∷ f.Second ∷ []) at d) (λ ms. then_of_text (field_of_text ref_of_text f.First at ms) (λ first. then_of_text (field_of_text ref_of_text f.Second at ms) (λ second. ok_of_text)))
+    then_of_text (object_of_text (f.Op ∷ f.First ∷ f.Second ∷ []) (f.Op ∷ f.First ∷ f.Second ∷ []) at d)
+    (λ ms. then_of_text (field_of_text ref_of_text f.First at ms)
+    (λ first. then_of_text (field_of_text ref_of_text f.Second at ms) (λ second. ok_of_text)))
 
 card_of_text : (at : List ℕ) (d : Data) → OfText (card_at at d)
 unfolding card_at
 card_of_text at d =
-    then_of_text (object_of_text (f.Op ∷ f.Rgba ∷ []) (f.Op ∷ f.Rgba ∷ []) at d) (λ ms. then_of_text (field_of_text style_of_text f.Rgba at ms) (λ style. ok_of_text))
+    then_of_text (object_of_text (f.Op ∷ f.Rgba ∷ []) (f.Op ∷ f.Rgba ∷ []) at d)
+    (λ ms. then_of_text (field_of_text style_of_text f.Rgba at ms) (λ style. ok_of_text))
 
 shuffle_of_text : (at : List ℕ) (d : Data) → OfText (shuffle_at at d)
 unfolding shuffle_at
 shuffle_of_text at d =
-    then_of_text (object_of_text (f.Op ∷ f.Input ∷ f.List ∷ []) (f.Op ∷ f.Input ∷ f.List ∷ []) at d) (λ ms. then_of_text (field_of_text ref_of_text f.Input at ms) (λ input. then_of_text (field_of_text (list_of_text (number_of_text 1 9999)) f.List at ms) (λ rows. ok_of_text)))
+    then_of_text (object_of_text (f.Op ∷ f.Input ∷ f.List ∷ []) (f.Op ∷ f.Input ∷ f.List ∷ []) at d)
+    (λ ms. then_of_text (field_of_text ref_of_text f.Input at ms)
+    (λ input. then_of_text (field_of_text (list_of_text (number_of_text 1 9999)) f.List at ms) (λ rows. ok_of_text)))
 
 blur_of_text : (at : List ℕ) (d : Data) → OfText (blur_at at d)
 unfolding blur_at
 blur_of_text at d =
-    then_of_text (object_of_text (f.Op ∷ f.Input ∷ f.Radius ∷ []) (f.Op ∷ f.Input ∷ f.Radius ∷ []) at d) (λ ms. then_of_text (field_of_text ref_of_text f.Input at ms) (λ input. then_of_text (field_of_text (number_of_text 1 16) f.Radius at ms) (λ radius. ok_of_text)))
+    then_of_text (object_of_text (f.Op ∷ f.Input ∷ f.Radius ∷ []) (f.Op ∷ f.Input ∷ f.Radius ∷ []) at d)
+    (λ ms. then_of_text (field_of_text ref_of_text f.Input at ms)
+    (λ input. then_of_text (field_of_text (number_of_text 1 16) f.Radius at ms) (λ radius. ok_of_text)))
 
 filter_of_text : (at : List ℕ) (d : Data) → OfText (filter_at at d)
 unfolding filter_at
 filter_of_text at d =
-    then_of_text (object_of_text (f.Op ∷ f.Input ∷ f.Styles ∷ []) (f.Op ∷ f.Input ∷ f.Styles ∷ []) at d) (λ ms. then_of_text (field_of_text ref_of_text f.Input at ms) (λ input. then_of_text (field_of_text (list_of_text (number_of_text 0 4095)) f.Styles at ms) (λ styles. ok_of_text)))
+    then_of_text (object_of_text (f.Op ∷ f.Input ∷ f.Styles ∷ []) (f.Op ∷ f.Input ∷ f.Styles ∷ []) at d)
+    (λ ms. then_of_text (field_of_text ref_of_text f.Input at ms)
+    (λ input. then_of_text (field_of_text (list_of_text (number_of_text 0 4095)) f.Styles at ms) (λ styles. ok_of_text)))
 
 keep_of_text : (at : List ℕ) (d : Data) → OfText (keep_at at d)
 unfolding keep_at
@@ -274,17 +326,28 @@ work_of_text format at d =
 node_of_text : (format : ℕ) (at : List ℕ) (d : Data) → OfText (node_at format at d)
 unfolding node_at
 node_of_text format at d =
-    then_of_text (or_of_text (as_object d) code.WrongKind at refl) (λ ms. then_of_text (field_of_text (work_of_text format) f.Op at ms) (λ w. node_of_of_text w at d))
+    then_of_text (or_of_text (as_object d) code.WrongKind at refl)
+    (λ ms. then_of_text (field_of_text (work_of_text format) f.Op at ms)
+    (λ w. node_of_of_text w at d))
 
 sheet_of_text : (format : ℕ) (at : List ℕ) (d : Data) → OfText (sheet_at format at d)
 unfolding sheet_at
 sheet_of_text format at d =
-    then_of_text (object_of_text (f.Pegs ∷ f.Columns ∷ f.Nodes ∷ f.Out ∷ []) (f.Columns ∷ []) at d) (λ ms. then_of_text (field_or_of_text (list_of_text (peg_of_text format)) [] f.Pegs at ms) (λ pegs. then_of_text (field_of_text (list_of_text column_of_text) f.Columns at ms) (λ columns. then_of_text (field_or_of_text (list_of_text (node_of_text format)) [] f.Nodes at ms) (λ nodes. then_of_text (optional_of_text (list_of_text ref_of_text) f.Out at ms) (λ out. ok_of_text)))))
+    then_of_text (object_of_text (f.Pegs ∷ f.Columns ∷ f.Nodes ∷ f.Out ∷ []) (f.Columns ∷ []) at d)
+    (λ ms. then_of_text (field_or_of_text (list_of_text (peg_of_text format)) [] f.Pegs at ms)
+    (λ pegs. then_of_text (field_of_text (list_of_text column_of_text) f.Columns at ms)
+    (λ columns. then_of_text (field_or_of_text (list_of_text (node_of_text format)) [] f.Nodes at ms)
+    (λ nodes. then_of_text (optional_of_text (list_of_text ref_of_text) f.Out at ms) (λ out. ok_of_text)))))
 
 scene_at_of_text : (at : List ℕ) (d : Data) → OfText (scene_at at d)
 unfolding scene_at
 scene_at_of_text at d =
-    then_of_text (object_of_text scene_fields scene_fields at d) (λ ms. then_of_text (field_of_text (number_of_text 1 2) f.Format at ms) (λ format. then_of_text (field_of_text camera_of_text f.Camera at ms) (λ camera. then_of_text (field_of_text (list_of_text (palette_of_text format)) f.Palettes at ms) (λ palettes. then_of_text (field_of_text (list_of_text level_of_text) f.Levels at ms) (λ levels. then_of_text (field_of_text (list_of_text (sheet_of_text format)) f.Sheets at ms) (λ sheets. ok_of_text))))))
+    then_of_text (object_of_text scene_fields scene_fields at d)
+    (λ ms. then_of_text (field_of_text (number_of_text 1 2) f.Format at ms)
+    (λ format. then_of_text (field_of_text camera_of_text f.Camera at ms)
+    (λ camera. then_of_text (field_of_text (list_of_text (palette_of_text format)) f.Palettes at ms)
+    (λ palettes. then_of_text (field_of_text (list_of_text level_of_text) f.Levels at ms)
+    (λ levels. then_of_text (field_of_text (list_of_text (sheet_of_text format)) f.Sheets at ms) (λ sheets. ok_of_text))))))
 
 pub scene_of_text : (bytes : List ℕ) → OfText (scene_of bytes)
 unfolding scene_of

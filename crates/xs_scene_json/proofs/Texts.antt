@@ -4,10 +4,11 @@ use Rattle.std.specs.Str.{is_utf8, IsUtf8}
 use Rattle.std.proofs.lemmas.Str.{IsUtf8-from_is_utf8, is_utf8-from_IsUtf8}
 use Rattle.serde_json.specs.Data.{Data}
 use Rattle.serde_json.specs.Read.{read}
-use Rattle.xs_json.specs.declared.code.SceneCode.{SceneCode}
-use Rattle.xs_json.specs.declared.fault.FieldFault.{FieldFault}
-use Rattle.xs_json.specs.declared.fault.FieldFault.TheVariants as errors
-use Rattle.xs_json.specs.Reading.{Tells, Fails, fault}
+use Rattle.xs_fault.specs.declared.code.SceneCode.{SceneCode}
+use Rattle.xs_fault.specs.declared.fault.FieldFault.{FieldFault}
+use Rattle.xs_fault.specs.declared.fault.FieldFault.TheVariants as errors
+use Rattle.xs_fault.specs.Faults.{IsFaultAt}
+use Rattle.xs_json.specs.Parsing.{Fails, fault}
 use Rattle.xs_scene.specs.Records.{SceneRecord}
 use Rattle.xs_scene_text.specs.SceneText.{json_of, scene_at, scene_of}
 
@@ -22,7 +23,7 @@ pub json_of-none : (bytes : List ℕ) → (IsUtf8 bytes → read bytes ≡ None)
 json_of-none bytes none = none_when (is_utf8 bytes) bytes refl none
 
 -- a fault that is told is the reading's
-pub fails_as_told : (Y : Type 0) (code : SceneCode) (at : List ℕ) (e : FieldFault) → Tells code at e → Fails {Y = Y} e (fault code at)
+pub fails_as_told : (Y : Type 0) (code : SceneCode) (at : List ℕ) (e : FieldFault) → IsFaultAt code at e → Fails {Y = Y} e (fault code at)
 fails_as_told Y code at errors.Memory told = tt
 fails_as_told Y code at (errors.Fault f) told = ap Err (sym told)
 

@@ -1,8 +1,8 @@
 ghost use Rattle.std.specs.Prelude.{◌≡◌, ℕ, List, [], true, Ok, Err, IfOk};
 ghost use Rattle.serde_json.specs.View.{view};
-ghost use Rattle.xs_json.specs.declared.code.SceneCode.TheVariants as code;
-ghost use Rattle.xs_json.specs.declared.fault.SceneFault.{SceneFault};
-ghost use Rattle.xs_json.specs.Reading.{Gives, or_fault};
+ghost use Rattle.xs_fault.specs.declared.code.SceneCode.TheVariants as code;
+ghost use Rattle.xs_fault.specs.declared.fault.SceneFault.{SceneFault};
+ghost use Rattle.xs_json.specs.Parsing.{Gives, or_fault};
 ghost use Rattle.serde_json.specs.Written.{compact_text};
 ghost use Rattle.xs_scene_text.specs.SceneText.{json_of, scene_of};
 ghost use Rattle.xs_scene_text.specs.SceneData.{scene_data};
@@ -10,8 +10,8 @@ ghost use Rattle.xs_scene_json.specs.Faults.{is_text_code};
 
 use serde_json::{Category, Value};
 use std::alloc::Global;
-use xs_json::{FieldFault, Path, SceneCode, fault_at};
-use xs_pixel::Memory;
+use xs_base::Memory;
+use xs_fault::{FieldFault, Path, SceneCode, fault_at};
 use xs_scene::Scene;
 use xs_scene_read::read_scene;
 use xs_scene_text::what_is_written_is_shallow;

@@ -1,2 +1,2 @@
-pub mod Lengths
-pub mod Loops
+mod Lengths
+mod Loops

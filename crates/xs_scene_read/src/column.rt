@@ -1,6 +1,6 @@
 ghost use Rattle.std.specs.Prelude.{IfOk};
 ghost use Rattle.serde_json.specs.View.{members_view};
-ghost use Rattle.xs_json.specs.Reading.{Gives};
+ghost use Rattle.xs_json.specs.Parsing.{Gives};
 ghost use Rattle.xs_scene.specs.Ranges.{IsShown};
 ghost use Rattle.xs_scene_text.specs.SceneText.{shown_sheet_at, shown_drawing_at, shown_at};
 
@@ -10,8 +10,9 @@ use crate::fields::{
 };
 use serde_json::{Map, Value};
 use std::alloc::Global;
-use xs_json::{Field, FieldFault, Path, Place, object, optional};
-use xs_scene::range::LAST_ROW;
+use xs_base::limits::LAST_ROW;
+use xs_fault::{Field, FieldFault, Path, Place};
+use xs_json::{object, optional};
 use xs_scene::{Column, Exposure, Shown};
 
 /// The rows of a sheet that a cell shows.
@@ -65,9 +66,12 @@ fn shown(alloc: Global, map: &Map<String, Value>, at: &Path) -> Result<Shown, Fi
 }
 
 impl Element for Exposure {
+    ghost use Rattle.xs_scene.specs.Ranges.{IsExposure};
     ghost use Rattle.xs_scene_text.specs.SceneText.{cell_at};
 
     ghost reading = { λ _. cell_at };
+
+    ghost fits = { IsExposure };
 
     #[tactic(auto, unfolding(xs_scene_text::specs::SceneText::cell_at))]
     fn read(alloc: Global, _format: u32, v: &Value, place: &Place) -> Result<Self, FieldFault> {
@@ -89,9 +93,12 @@ impl Element for Exposure {
 }
 
 impl Element for Column {
+    ghost use Rattle.xs_scene.specs.InRange.{ColumnInRange};
     ghost use Rattle.xs_scene_text.specs.SceneText.{column_at};
 
     ghost reading = { λ _. column_at };
+
+    ghost fits = { ColumnInRange };
 
     #[tactic(auto, unfolding(xs_scene_text::specs::SceneText::column_at))]
     fn read(alloc: Global, format: u32, v: &Value, place: &Place) -> Result<Self, FieldFault> {

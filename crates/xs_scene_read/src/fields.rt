@@ -1,6 +1,6 @@
 ghost use Rattle.std.specs.Prelude.{◌≡◌, ◌≤◌, [], false, IfOk, IfSome, All};
 ghost use Rattle.serde_json.specs.View.{members_view};
-ghost use Rattle.xs_json.specs.Reading.{Gives};
+ghost use Rattle.xs_json.specs.Parsing.{Gives};
 ghost use Rattle.xs_json.specs.Objects.{flag_at};
 ghost use Rattle.xs_scene.specs.Ranges.{IsReference};
 ghost use Rattle.xs_scene_text.specs.Fields.{field, optional_field, field_or, list_of, number_at, reference_at, none_of, form_at};
@@ -8,11 +8,10 @@ ghost use Rattle.xs_scene_text.specs.Fields.{field, optional_field, field_or, li
 use crate::element::{Element, number, numbers};
 use serde_json::{Map, Value};
 use std::alloc::Global;
-use xs_json::{
-    Field, FieldFault, Path, Place, SceneCode, all_there, fault_at, has_any, optional, required,
-};
-use xs_pixel::List;
-use xs_scene::range::GREATEST_REFERENCE;
+use xs_base::List;
+use xs_base::limits::GREATEST_REFERENCE;
+use xs_fault::{Field, FieldFault, Path, Place, SceneCode, fault_at};
+use xs_json::{all_there, flag, has_any, optional, required};
 
 /// A field that is needed.
 pub fn needed<E: Element>(
@@ -143,7 +142,7 @@ pub fn flag_or_false(
     ensures { Gives (λ b. b) result (field_or false k flag_at at.now (members_view map.now.entries)) }
 {
     match optional(map, k) {
-        Some(v) => Place::key(at, k).flag(alloc, v),
+        Some(v) => flag(alloc, v, &Place::key(at, k)),
         None => Ok(false),
     }
 }

@@ -1,6 +1,6 @@
 ghost use Rattle.std.specs.Prelude.{IfOk};
 ghost use Rattle.serde_json.specs.View.{members_view};
-ghost use Rattle.xs_json.specs.Reading.{Gives};
+ghost use Rattle.xs_json.specs.Parsing.{Gives};
 ghost use Rattle.xs_scene.specs.Ranges.{IsKind};
 ghost use Rattle.xs_scene_text.specs.Fields.{field};
 ghost use Rattle.xs_scene_text.specs.SceneText.{is_cm32_at, kind_of};
@@ -9,18 +9,22 @@ use crate::element::Element;
 use crate::fields::{needed, none_of, reference_needed};
 use serde_json::{Map, Value};
 use std::alloc::Global;
-use xs_json::{Field, FieldFault, Path, Place, SceneCode, object, required};
+use xs_fault::{Field, FieldFault, Path, Place, SceneCode};
+use xs_json::{object, required, text};
 use xs_scene::{Kind, Level, Name};
 
 impl Element for Name {
+    ghost use Rattle.xs_scene.specs.Names.{IsName};
     ghost use Rattle.xs_scene_text.specs.SceneText.{name_at};
 
     ghost reading = { λ _. name_at };
 
+    ghost fits = { IsName };
+
     #[tactic(auto, unfolding(xs_scene_text::specs::SceneText::name_at))]
     fn read(alloc: Global, _format: u32, v: &Value, place: &Place) -> Result<Self, FieldFault> {
-        let text = String::from_str(alloc, place.text(alloc, v)?)?;
-        match Name::new(text) {
+        let name = String::from_str(alloc, text(alloc, v, place)?)?;
+        match Name::new(name) {
             Some(name) => Ok(name),
             None => Err(place.fault(alloc, SceneCode::OutOfRange)),
         }
@@ -33,7 +37,7 @@ fn is_cm32(alloc: Global, map: &Map<String, Value>, at: &Path) -> Result<bool, F
 {
     let v = required(alloc, map, at, Field::Kind)?;
     let place = Place::key(at, Field::Kind);
-    match place.text(alloc, v)? {
+    match text(alloc, v, &place)? {
         "colour" => Ok(false),
         "cm32" => Ok(true),
         _ => Err(place.fault(alloc, SceneCode::OutOfRange)),
@@ -54,9 +58,12 @@ fn kind(alloc: Global, map: &Map<String, Value>, at: &Path, cm32: bool) -> Resul
 }
 
 impl Element for Level {
+    ghost use Rattle.xs_scene.specs.InRange.{LevelInRange};
     ghost use Rattle.xs_scene_text.specs.SceneText.{level_at};
 
     ghost reading = { λ _. level_at };
+
+    ghost fits = { LevelInRange };
 
     #[tactic(auto, unfolding(xs_scene_text::specs::SceneText::level_at))]
     fn read(alloc: Global, format: u32, v: &Value, place: &Place) -> Result<Self, FieldFault> {

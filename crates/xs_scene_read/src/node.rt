@@ -1,7 +1,8 @@
 ghost use Rattle.std.specs.Prelude.{◌≡◌, IfOk, All};
 ghost use Rattle.serde_json.specs.View.{view, members_view};
-ghost use Rattle.xs_json.specs.Reading.{Gives};
-ghost use Rattle.xs_scene.specs.Ranges.{IsRef, IsFiltered, IsNode, IsOldNode};
+ghost use Rattle.xs_json.specs.Parsing.{Gives};
+ghost use Rattle.xs_scene.specs.InRange.{NodeInRange};
+ghost use Rattle.xs_scene.specs.Ranges.{IsRef, IsFiltered, IsOldNode};
 ghost use Rattle.xs_scene_text.specs.Fields.{field};
 ghost use Rattle.xs_scene_text.specs.SceneText.{node_number_at, column_number_at, target_at, pair_at, card_at, shuffle_at, blur_at, filter_at, keep_at, delete_at, work_at, node_of, IsOldWork};
 
@@ -9,9 +10,11 @@ use crate::element::Element;
 use crate::fields::{needed, none_of, number_needed, numbers_needed, reference_needed};
 use serde_json::{Map, Value};
 use std::alloc::Global;
-use xs_json::{Field, FieldFault, Path, Place, SceneCode, fault_at, object, optional, required};
-use xs_pixel::{List, Op};
-use xs_scene::range::{GREATEST_RADIUS, LAST_ROW, MOST_STYLES};
+use xs_base::List;
+use xs_base::limits::{GREATEST_RADIUS, LAST_ROW, STYLE_NUMBERS};
+use xs_fault::{Field, FieldFault, Path, Place, SceneCode, fault_at};
+use xs_json::{object, optional, required, text};
+use xs_pixel::Op;
 use xs_scene::{Node, Ref};
 use xs_scene_text::{Work, work_named};
 
@@ -69,7 +72,7 @@ impl Element for Ref {
 #[tactic(auto, unfolding(xs_scene_text::specs::SceneText::pair_at))]
 fn pair(alloc: Global, v: &Value, at: &Path, op: Op) -> Result<Node, FieldFault>
     ensures exact { Gives (λ n. n) result (pair_at op at.now (view v.now)) }
-    ensures range { IfOk result IsNode }
+    ensures range { IfOk result NodeInRange }
     ensures old { IfOk result IsOldNode }
 {
     let fields = [Field::Op, Field::First, Field::Second];
@@ -85,7 +88,7 @@ fn pair(alloc: Global, v: &Value, at: &Path, op: Op) -> Result<Node, FieldFault>
 #[tactic(auto, unfolding(xs_scene_text::specs::SceneText::card_at))]
 fn card(alloc: Global, v: &Value, at: &Path) -> Result<Node, FieldFault>
     ensures exact { Gives (λ n. n) result (card_at at.now (view v.now)) }
-    ensures range { IfOk result IsNode }
+    ensures range { IfOk result NodeInRange }
     ensures old { IfOk result IsOldNode }
 {
     let fields = [Field::Op, Field::Rgba];
@@ -97,7 +100,7 @@ fn card(alloc: Global, v: &Value, at: &Path) -> Result<Node, FieldFault>
 #[tactic(auto, unfolding(xs_scene_text::specs::SceneText::shuffle_at))]
 fn shuffle(alloc: Global, v: &Value, at: &Path) -> Result<Node, FieldFault>
     ensures exact { Gives (λ n. n) result (shuffle_at at.now (view v.now)) }
-    ensures range { IfOk result IsNode }
+    ensures range { IfOk result NodeInRange }
     ensures old { IfOk result IsOldNode }
 {
     let fields = [Field::Op, Field::Input, Field::List];
@@ -112,7 +115,7 @@ fn shuffle(alloc: Global, v: &Value, at: &Path) -> Result<Node, FieldFault>
 #[tactic(auto, unfolding(xs_scene_text::specs::SceneText::blur_at))]
 fn blur(alloc: Global, v: &Value, at: &Path) -> Result<Node, FieldFault>
     ensures exact { Gives (λ n. n) result (blur_at at.now (view v.now)) }
-    ensures range { IfOk result IsNode }
+    ensures range { IfOk result NodeInRange }
 {
     let fields = [Field::Op, Field::Input, Field::Radius];
     let map = object(alloc, v, at, &fields, &fields)?;
@@ -132,7 +135,7 @@ fn filter(alloc: Global, v: &Value, at: &Path) -> Result<(Ref, List<u32>), Field
     let fields = [Field::Op, Field::Input, Field::Styles];
     let map = object(alloc, v, at, &fields, &fields)?;
     let input = needed(alloc, ANY_FORMAT, map, at, Field::Input)?;
-    let styles = numbers_needed(alloc, map, at, Field::Styles, 0, MOST_STYLES - 1)?;
+    let styles = numbers_needed(alloc, map, at, Field::Styles, 0, STYLE_NUMBERS - 1)?;
     Ok((input, styles))
 }
 
@@ -140,7 +143,7 @@ fn filter(alloc: Global, v: &Value, at: &Path) -> Result<(Ref, List<u32>), Field
 #[tactic(auto, unfolding(xs_scene_text::specs::SceneText::keep_at))]
 fn keep(alloc: Global, v: &Value, at: &Path) -> Result<Node, FieldFault>
     ensures exact { Gives (λ n. n) result (keep_at at.now (view v.now)) }
-    ensures range { IfOk result IsNode }
+    ensures range { IfOk result NodeInRange }
 {
     let (input, styles) = filter(alloc, v, at)?;
     Ok(Node::Keep { input, styles })
@@ -150,7 +153,7 @@ fn keep(alloc: Global, v: &Value, at: &Path) -> Result<Node, FieldFault>
 #[tactic(auto, unfolding(xs_scene_text::specs::SceneText::delete_at))]
 fn delete(alloc: Global, v: &Value, at: &Path) -> Result<Node, FieldFault>
     ensures exact { Gives (λ n. n) result (delete_at at.now (view v.now)) }
-    ensures range { IfOk result IsNode }
+    ensures range { IfOk result NodeInRange }
 {
     let (input, styles) = filter(alloc, v, at)?;
     Ok(Node::Delete { input, styles })
@@ -164,7 +167,7 @@ fn work(alloc: Global, format: u32, map: &Map<String, Value>, at: &Path) -> Resu
 {
     let v = required(alloc, map, at, Field::Op)?;
     let place = Place::key(at, Field::Op);
-    match work_named(format, place.text(alloc, v)?) {
+    match work_named(format, text(alloc, v, &place)?) {
         Some(work) => Ok(work),
         None => Err(place.fault(alloc, SceneCode::OutOfRange)),
     }
@@ -173,7 +176,7 @@ fn work(alloc: Global, format: u32, map: &Map<String, Value>, at: &Path) -> Resu
 /// The node of a work.
 fn node(alloc: Global, v: &Value, at: &Path, work: Work) -> Result<Node, FieldFault>
     ensures exact { Gives (λ n. n) result (node_of work at.now (view v.now)) }
-    ensures range { IfOk result IsNode }
+    ensures range { IfOk result NodeInRange }
     ensures known { IfOk result (λ n. IsOldWork work → IsOldNode n) }
 {
     match work {
@@ -187,12 +190,13 @@ fn node(alloc: Global, v: &Value, at: &Path, work: Work) -> Result<Node, FieldFa
 }
 
 impl Element for Node {
-    ghost use Rattle.xs_scene.specs.Ranges.{IsNode, IsOldNode};
+    ghost use Rattle.xs_scene.specs.InRange.{NodeInRange};
+    ghost use Rattle.xs_scene.specs.Ranges.{IsOldNode};
     ghost use Rattle.xs_scene_text.specs.SceneText.{node_at};
 
     ghost reading = { node_at };
 
-    ghost fits = { IsNode };
+    ghost fits = { NodeInRange };
 
     ghost plain = { IsOldNode };
 

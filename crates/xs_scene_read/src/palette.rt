@@ -1,15 +1,17 @@
 ghost use Rattle.std.specs.Prelude.{◌≡◌, [], IfOk};
 ghost use Rattle.serde_json.specs.View.{view, items_view};
-ghost use Rattle.xs_json.specs.Reading.{Gives};
+ghost use Rattle.xs_json.specs.Parsing.{Gives};
 ghost use Rattle.xs_scene_text.specs.SceneText.{four_at, channel_at, plain_palette_at, keyed_palette_at};
 
 use crate::element::{Element, number};
 use crate::fields::{list_or_empty, needed, number_needed, reference_needed};
 use serde_json::Value;
 use std::alloc::Global;
-use xs_json::{Field, FieldFault, Path, Place, SceneCode, fault_at, object};
-use xs_pixel::{List, Style};
-use xs_scene::range::LAST_ROW;
+use xs_base::List;
+use xs_base::limits::LAST_ROW;
+use xs_fault::{Field, FieldFault, Path, Place, SceneCode, fault_at};
+use xs_json::{list, object};
+use xs_pixel::Style;
 use xs_scene::{Colours, StyleKey};
 
 /// The four elements of the list at a place.
@@ -17,7 +19,7 @@ use xs_scene::{Colours, StyleKey};
 fn four<'v>(alloc: Global, v: &'v Value, place: &Place) -> Result<&'v Vec<Value>, FieldFault>
     ensures { Gives (λ l. items_view l.now.items) result (four_at place.now (view v.now)) }
 {
-    let channels = place.list(alloc, v)?;
+    let channels = list(alloc, v, place)?;
     if channels.len() != 4 {
         return Err(place.fault(alloc, SceneCode::OutOfRange));
     }
@@ -35,9 +37,12 @@ fn channel(alloc: Global, v: &Value, at: &Path, i: u32) -> Result<u8, FieldFault
 }
 
 impl Element for Style {
+    ghost use Rattle.xs_scene.specs.InRange.{IsStyle};
     ghost use Rattle.xs_scene_text.specs.SceneText.{style_at};
 
     ghost reading = { λ _. style_at };
+
+    ghost fits = { IsStyle };
 
     #[tactic(auto, unfolding(xs_scene_text::specs::SceneText::style_at))]
     fn read(alloc: Global, _format: u32, v: &Value, place: &Place) -> Result<Self, FieldFault> {
@@ -53,9 +58,12 @@ impl Element for Style {
 }
 
 impl Element for StyleKey {
+    ghost use Rattle.xs_scene.specs.InRange.{StyleKeyInRange};
     ghost use Rattle.xs_scene_text.specs.SceneText.{style_key_at};
 
     ghost reading = { λ _. style_key_at };
+
+    ghost fits = { StyleKeyInRange };
 
     #[tactic(auto, unfolding(xs_scene_text::specs::SceneText::style_key_at))]
     fn read(alloc: Global, format: u32, v: &Value, place: &Place) -> Result<Self, FieldFault> {
@@ -112,10 +120,13 @@ fn keyed_palette(
 }
 
 impl Element for Colours {
+    ghost use Rattle.xs_scene.specs.InRange.{ColoursInRange};
     ghost use Rattle.xs_scene.specs.Ranges.{HasNoKey};
     ghost use Rattle.xs_scene_text.specs.SceneText.{palette_at};
 
     ghost reading = { palette_at };
+
+    ghost fits = { ColoursInRange };
 
     ghost plain = { HasNoKey };
 

@@ -1,6 +1,6 @@
 ghost use Rattle.std.specs.Prelude.{◌≡◌, false, IfOk};
 ghost use Rattle.serde_json.specs.View.{view, members_view};
-ghost use Rattle.xs_json.specs.Reading.{Gives};
+ghost use Rattle.xs_json.specs.Parsing.{Gives};
 ghost use Rattle.xs_scene.specs.Ranges.{IsOffset};
 ghost use Rattle.xs_scene_text.specs.Fields.{field, offset_at, is_other_number};
 ghost use Rattle.xs_scene_text.specs.SceneText.{moves_only, peg_key_fields, line_at};
@@ -9,8 +9,9 @@ use crate::element::Element;
 use crate::fields::{flag_or_false, list_or_empty, none_of, number_needed, reference_if_there};
 use serde_json::{Map, Value};
 use std::alloc::Global;
-use xs_json::{Field, FieldFault, Path, Place, SceneCode, fault_at, object, required};
-use xs_scene::range::{FARTHEST_OFFSET, LAST_ROW};
+use xs_base::limits::{FARTHEST_OFFSET, LAST_ROW};
+use xs_fault::{Field, FieldFault, Path, Place, SceneCode, fault_at};
+use xs_json::{object, required, whole};
 use xs_scene::{Peg, PegKey};
 
 /// Whether the value is a number that an `i64` does not hold.
@@ -31,12 +32,8 @@ fn offset(alloc: Global, map: &Map<String, Value>, at: &Path, k: Field) -> Resul
     if is_other_number(v) {
         return Err(place.fault(alloc, SceneCode::Placement));
     }
-    Ok(place.whole(
-        alloc,
-        v,
-        -i64::from(FARTHEST_OFFSET),
-        i64::from(FARTHEST_OFFSET),
-    )? as i32)
+    let farthest = i64::from(FARTHEST_OFFSET);
+    Ok(whole(alloc, v, &place, -farthest, farthest)? as i32)
 }
 
 /// The members of a peg key, which may not turn, scale or shear: Placement where it has a key for that.
@@ -82,10 +79,13 @@ fn line(alloc: Global, format: u32, map: &Map<String, Value>, at: &Path) -> Resu
 }
 
 impl Element for PegKey {
+    ghost use Rattle.xs_scene.specs.Ranges.{IsPegKey};
     ghost use Rattle.std.specs.Prelude.{◌≡◌, false};
     ghost use Rattle.xs_scene_text.specs.SceneText.{peg_key_at};
 
     ghost reading = { peg_key_at };
+
+    ghost fits = { IsPegKey };
 
     ghost plain = { λ key. key.line ≡ false };
 
@@ -110,10 +110,13 @@ impl Element for PegKey {
 }
 
 impl Element for Peg {
+    ghost use Rattle.xs_scene.specs.InRange.{PegInRange};
     ghost use Rattle.xs_scene.specs.Ranges.{HasNoLine};
     ghost use Rattle.xs_scene_text.specs.SceneText.{peg_at};
 
     ghost reading = { peg_at };
+
+    ghost fits = { PegInRange };
 
     ghost plain = { HasNoLine };
 

@@ -1,19 +1,23 @@
 ghost use Rattle.serde_json.specs.View.{view};
-ghost use Rattle.xs_json.specs.Reading.{Gives};
+ghost use Rattle.xs_json.specs.Parsing.{Gives};
 ghost use Rattle.xs_scene_text.specs.SceneText.{scene_at};
 
 use crate::element::Element;
 use crate::fields::{needed, number_needed, reference_if_there};
 use serde_json::Value;
 use std::alloc::Global;
-use xs_json::{Field, FieldFault, Path, Place, object};
-use xs_scene::range::LONGEST_SIDE;
+use xs_base::limits::LONGEST_CAMERA_SIDE;
+use xs_fault::{Field, FieldFault, Path, Place};
+use xs_json::object;
 use xs_scene::{Camera, Scene};
 
 impl Element for Camera {
+    ghost use Rattle.xs_scene.specs.Ranges.{IsCamera};
     ghost use Rattle.xs_scene_text.specs.SceneText.{camera_at};
 
     ghost reading = { λ _. camera_at };
+
+    ghost fits = { IsCamera };
 
     #[tactic(auto, unfolding(xs_scene_text::specs::SceneText::camera_at))]
     fn read(alloc: Global, _format: u32, v: &Value, place: &Place) -> Result<Self, FieldFault> {
@@ -21,8 +25,8 @@ impl Element for Camera {
         let fields = [Field::W, Field::H, Field::Peg];
         let map = object(alloc, v, &at, &fields, &[Field::W, Field::H])?;
         Ok(Camera {
-            w: number_needed(alloc, map, &at, Field::W, 1, LONGEST_SIDE)?,
-            h: number_needed(alloc, map, &at, Field::H, 1, LONGEST_SIDE)?,
+            w: number_needed(alloc, map, &at, Field::W, 1, LONGEST_CAMERA_SIDE)?,
+            h: number_needed(alloc, map, &at, Field::H, 1, LONGEST_CAMERA_SIDE)?,
             peg: reference_if_there(alloc, map, &at, Field::Peg)?,
         })
     }

@@ -2,14 +2,18 @@ use crate::element::Element;
 use crate::fields::{if_there, list_or_empty, needed};
 use serde_json::Value;
 use std::alloc::Global;
-use xs_json::{Field, FieldFault, Place, object};
+use xs_fault::{Field, FieldFault, Place};
+use xs_json::object;
 use xs_scene::Sheet;
 
 impl Element for Sheet {
+    ghost use Rattle.xs_scene.specs.InRange.{SheetInRange};
     ghost use Rattle.xs_scene.specs.Ranges.{HasNoLines, HasOldNodes};
     ghost use Rattle.xs_scene_text.specs.SceneText.{sheet_at};
 
     ghost reading = { sheet_at };
+
+    ghost fits = { SheetInRange };
 
     ghost plain = { λ sheet. HasNoLines sheet × HasOldNodes sheet };
 

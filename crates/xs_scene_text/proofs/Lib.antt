@@ -1,4 +1,4 @@
-pub mod Again
-pub mod Nodes
-pub mod Objects
-pub mod Shallow
+mod Again
+mod Nodes
+mod Objects
+mod Shallow

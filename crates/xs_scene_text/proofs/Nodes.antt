@@ -32,7 +32,7 @@ rows_again : (rows : List ℕ) → All IsRow rows → IsReadAgain (list_of row_a
 rows_again rows are = numbers_again 1 9999 rows (omega arith) are
 
 styles_again : (styles : List ℕ) → All IsFiltered styles → IsReadAgain (list_of (number_at 0 4095)) (list_data number_data) styles
-styles_again styles are = numbers_again 0 4095 styles (omega arith) (λ k d lt. (omega arith, are k d lt))
+styles_again styles are = numbers_again 0 4095 styles (omega arith) (λ k d lt. (omega arith, omega (arith, are k d lt)))
 
 newer_since : (b : Bool) → (b ≡ false → ⊥) → b ≡ true
 newer_since true other = refl
@@ -57,22 +57,30 @@ shuffle_again : (format : ℕ) (input : Ref) (rows : List ℕ) → IsRef input �
 unfolding node_at shuffle_at
 shuffle_again format input rows is are at = rw (ref_again input is _, rows_again rows are _) refl
 
-blur_again : (format : ℕ) (input : Ref) (radius : ℕ) → (is_newer format ≡ false → ⊥) → IsRef input → 1 ≤ radius → radius ≤ 16 → IsReadAgain (node_at format) node_data (node.Blur input radius)
+blur_again :
+    (format : ℕ) (input : Ref) (radius : ℕ) → (is_newer format ≡ false → ⊥) → IsRef input → 1 ≤ radius
+    → radius ≤ 16 → IsReadAgain (node_at format) node_data (node.Blur input radius)
 unfolding node_at blur_at
 blur_again format input radius known is least most at =
     rw (newer_since (is_newer format) known, ref_again input is _, number_again 1 16 radius _ least most (omega arith)) refl
 
-keep_again : (format : ℕ) (input : Ref) (styles : List ℕ) → (is_newer format ≡ false → ⊥) → IsRef input → All IsFiltered styles → IsReadAgain (node_at format) node_data (node.Keep input styles)
+keep_again :
+    (format : ℕ) (input : Ref) (styles : List ℕ) → (is_newer format ≡ false → ⊥) → IsRef input
+    → All IsFiltered styles → IsReadAgain (node_at format) node_data (node.Keep input styles)
 unfolding node_at keep_at filter_at
 keep_again format input styles known is are at =
     rw (newer_since (is_newer format) known, ref_again input is _, styles_again styles are _) refl
 
-delete_again : (format : ℕ) (input : Ref) (styles : List ℕ) → (is_newer format ≡ false → ⊥) → IsRef input → All IsFiltered styles → IsReadAgain (node_at format) node_data (node.Delete input styles)
+delete_again :
+    (format : ℕ) (input : Ref) (styles : List ℕ) → (is_newer format ≡ false → ⊥) → IsRef input
+    → All IsFiltered styles → IsReadAgain (node_at format) node_data (node.Delete input styles)
 unfolding node_at delete_at filter_at
 delete_again format input styles known is are at =
     rw (newer_since (is_newer format) known, ref_again input is _, styles_again styles are _) refl
 
-node_again : (format : ℕ) (node : Node) → IsNode node → HasCardInRange node → (is_newer format ≡ false → IsOldNode node) → IsReadAgain (node_at format) node_data node
+node_again :
+    (format : ℕ) (node : Node) → IsNode node → HasCardInRange node
+    → (is_newer format ≡ false → IsOldNode node) → IsReadAgain (node_at format) node_data node
 node_again format (node.Pair op first second) is card known = pair_again format op first second is.0 is.1
 node_again format (node.Card style) is card known = card_again format style (style_again style card)
 node_again format (node.Shuffle input rows) is card known = shuffle_again format input rows is.0 is.1
@@ -85,7 +93,8 @@ node_again format (node.Delete input styles) is card known = delete_again format
 sheet_fields_again : (format : ℕ) (pegs : List PegRecord) (columns : List ColumnRecord) (nodes : List Node) (out : Option (List Ref)) (at : List ℕ)
     → IsReadAgain (list_of (peg_at format)) (list_data peg_data) pegs → IsReadAgain (list_of column_at) (list_data column_data) columns
     → IsReadAgain (list_of (node_at format)) (list_data node_data) nodes → IfSome out (IsReadAgain (list_of ref_at) (list_data ref_data))
-    → sheet_at format at (sheet_data (record { pegs = pegs; columns = columns; nodes = nodes; out = out })) ≡ Ok (record { pegs = pegs; columns = columns; nodes = nodes; out = out })
+    → let sheet : SheetRecord = record { pegs = pegs; columns = columns; nodes = nodes; out = out } in
+    sheet_at format at (sheet_data sheet) ≡ Ok sheet
 unfolding sheet_at sheet_data
 sheet_fields_again format [] columns [] None at p c n o = rw (c _) refl
 sheet_fields_again format [] columns [] (Some out) at p c n o = rw (c _, o _) refl
@@ -100,14 +109,17 @@ out_again : (out : Option (List Ref)) → IfSome out (All IsRef) → IfSome out 
 out_again None are = tt
 out_again (Some refs) are = list_again ref_at ref_data refs (λ k d lt. ref_again _ (are k d lt))
 
-sheet_again : (format : ℕ) (sheet : SheetRecord) → SheetInRange sheet → (is_newer format ≡ false → HasNoLines sheet) → (is_newer format ≡ false → HasOldNodes sheet)
+sheet_again :
+    (format : ℕ) (sheet : SheetRecord) → SheetInRange sheet → (is_newer format ≡ false → HasNoLines sheet)
+    → (is_newer format ≡ false → HasOldNodes sheet)
     → IsReadAgain (sheet_at format) sheet_data sheet
 unfolding HasNoLines HasOldNodes
 sheet_again format sheet is no_lines old_nodes at =
     sheet_fields_again format sheet.pegs sheet.columns sheet.nodes sheet.out at
     (list_again (peg_at format) peg_data sheet.pegs (λ k d lt. peg_again format _ (is.pegs k d lt) (λ older. no_lines older k d lt)))
     (list_again column_at column_data sheet.columns (λ k d lt. column_again _ (is.columns k d lt)))
-    (list_again (node_at format) node_data sheet.nodes (λ k d lt. node_again format _ (is.numbers.are_nodes k d lt) (is.cards k d lt) (λ older. old_nodes older k d lt)))
+    (list_again (node_at format) node_data sheet.nodes
+    (λ k d lt. node_again format _ (is.numbers.are_nodes k d lt) (is.cards k d lt) (λ older. old_nodes older k d lt)))
     (out_again sheet.out is.numbers.are_refs)
 
 one_if_older : (format : ℕ) → 1 ≤ format → format ≤ 2 → is_newer format ≡ false → format ≡ 1
@@ -124,6 +136,8 @@ scene_again s is at =
       camera_again s.camera is.camera _,
       list_again (palette_at format) palette_data s.palettes (λ k d lt. palette_again format _ (is.palettes k d lt) (λ older. (plain older).no_keys k d lt)) _,
       list_again level_at level_data s.levels (λ k d lt. level_again _ (is.levels k d lt)) _,
-      list_again (sheet_at format) sheet_data s.sheets (λ k d lt. sheet_again format _ (is.sheets k d lt) (λ older. (plain older).no_lines k d lt) (λ older. (plain older).old_nodes k d lt)) _,
+      list_again (sheet_at format) sheet_data s.sheets
+          (λ k d lt. sheet_again format _ (is.sheets k d lt) (λ older. (plain older).no_lines k d lt) (λ older. (plain older).old_nodes k d lt))
+          _,
     )
     refl

@@ -81,7 +81,9 @@ palette_keys_again format styles (key ∷ keys) at known styles_again keys_again
   | inr older ↦ absurd (let none : key ∷ keys ≡ [] = known older in cc)
 ]
 
-pub palette_again : (format : ℕ) (palette : ColoursRecord) → ColoursInRange palette → (is_newer format ≡ false → HasNoKey palette) → IsReadAgain (palette_at format) palette_data palette
+pub palette_again :
+    (format : ℕ) (palette : ColoursRecord) → ColoursInRange palette
+    → (is_newer format ≡ false → HasNoKey palette) → IsReadAgain (palette_at format) palette_data palette
 palette_again format palette is known at =
     palette_keys_again format palette.styles palette.keys at known
     (list_again style_at style_data palette.styles (λ k d lt. style_again _ (is.styles k d lt)))
@@ -118,7 +120,9 @@ peg_key_line_again format row x y true at is_row is_x is_y known = elim (cases_B
   | inr older ↦ absurd (true≢false (known older))
 ]
 
-peg_key_again : (format : ℕ) (key : PegKeyRecord) → IsPegKey key → (is_newer format ≡ false → key.line ≡ false) → IsReadAgain (peg_key_at format) peg_key_data key
+peg_key_again :
+    (format : ℕ) (key : PegKeyRecord) → IsPegKey key → (is_newer format ≡ false → key.line ≡ false)
+    → IsReadAgain (peg_key_at format) peg_key_data key
 peg_key_again format key is known at = peg_key_line_again format key.row key.x key.y key.line at is.row is.x is.y known
 
 peg_fields_again : (format : ℕ) (parent : Option ℕ) (keys : List PegKeyRecord) (at : List ℕ) → IfSome parent IsReference
@@ -152,7 +156,9 @@ cell_shown_again from to (shown.Sheet sheet start) at is_from is_to rows is =
 cell_again : (cell : ExposureRecord) → IsExposure cell → IsReadAgain cell_at cell_data cell
 cell_again cell is at = cell_shown_again cell.from cell.to cell.shown at is.from is.to is.rows is.shown
 
-column_fields_again : (peg : Option ℕ) (off : Bool) (cells : List ExposureRecord) (at : List ℕ) → IfSome peg IsReference → IsReadAgain (list_of cell_at) (list_data cell_data) cells
+column_fields_again :
+    (peg : Option ℕ) (off : Bool) (cells : List ExposureRecord) (at : List ℕ) → IfSome peg IsReference
+    → IsReadAgain (list_of cell_at) (list_data cell_data) cells
     → column_at at (column_data (record { peg = peg; off = off; cells = cells })) ≡ Ok (record { peg = peg; off = off; cells = cells })
 unfolding column_at column_data
 column_fields_again None false cells at is cells_again = rw (cells_again _) refl

@@ -1,14 +1,15 @@
 -- What is written for a scene has no fraction and nests a few levels deep, so its text is exact and reads
 -- back.
-use Rattle.std.proofs.Common.{◌≡◌, ℕ, suc, ◌≤◌, ℤ, pos, negsuc, List, [], ◌∷◌, map, Bool, true, false, ◌||◌, Option, Some, None, Ordering, Less, Equal, Greater, nat_cmp, refl, arith}
+use Rattle.std.proofs.Common.{◌≡◌, ℕ, suc, ◌≤◌, ℤ, pos, negsuc, List, [], ◌∷◌, map, Bool, true, false, Option, Some, None, Ordering, Less, Equal, Greater, nat_cmp, refl, arith}
+use Rattle.std.proofs.lemmas.Bool.{or_parts}
 use Rattle.std.specs.Ordering.{match_ordering}
 use Rattle.std.specs.Cmp.Lexicographic.{slice_cmp}
 use Rattle.serde_json.specs.Data.{Data, string, object, Items, Members, no_members, member, put, depth, members_depth, items_depth}
 use Rattle.serde_json.specs.View.{items_of}
 use Rattle.serde_json.specs.Written.{has_float, items_have_float, members_have_float}
 use Rattle.xs_pixel.specs.declared.style.Style.{Style}
-use Rattle.xs_json.specs.declared.field.Field.{Field}
-use Rattle.xs_json.specs.declared.field.Field.TheVariants as f
+use Rattle.xs_fault.specs.declared.field.Field.{Field}
+use Rattle.xs_fault.specs.declared.field.Field.TheVariants as f
 use Rattle.xs_scene.specs.Records.{StyleKeyRecord, ColoursRecord, CameraRecord, LevelRecord, PegKeyRecord, PegRecord, ExposureRecord, ColumnRecord, SheetRecord, SceneRecord}
 use Rattle.xs_scene.specs.declared.level.Kind.{Kind}
 use Rattle.xs_scene.specs.declared.level.Kind.TheVariants as kind
@@ -18,7 +19,7 @@ use Rattle.xs_scene.specs.declared.node.Ref.{Ref}
 use Rattle.xs_scene.specs.declared.node.Ref.TheVariants as target
 use Rattle.xs_scene.specs.declared.node.Node.{Node}
 use Rattle.xs_scene.specs.declared.node.Node.TheVariants as node
-use Rattle.xs_scene_text.specs.SceneData.{number_data, offset_data, list_data, with_field, with_some, with_list, with_true, with_kind, with_shown, op_word, camera_data, style_data, style_key_data, palette_of, palette_data, level_data, peg_key_data, peg_data, cell_data, column_data, ref_data, listed_data, node_data, sheet_data, scene_data}
+use Rattle.xs_scene_text.specs.SceneData.{number_data, offset_data, list_data, with_field, with_some, with_list, with_true, with_kind, with_shown, op_word, camera_data, style_data, style_key_data, palette_value, palette_data, level_data, peg_key_data, peg_data, cell_data, column_data, ref_data, listed_data, node_data, sheet_data, scene_data}
 
 -- at most so deep, and without a fraction
 pub record IsShallow (k : ℕ) (d : Data) : Type 0 where
@@ -41,18 +42,12 @@ member_shallow {k} {d} {ms} name first others = record {
 }
 
 first_shallow : {k : ℕ} (name : List ℕ) (d : Data) (ms : Members) → AreShallow k (member name d ms) → IsShallow k d
-first_shallow name d ms all = record { no_float = neither (has_float d) _ all.no_float; within = omega (arith, all.within) }
-  where
-    neither : (a b : Bool) → (a || b) ≡ false → a ≡ false
-    neither true b e = e
-    neither false b e = refl
+first_shallow name d ms all =
+    record { no_float = (or_parts (has_float d) _ all.no_float).0; within = omega (arith, all.within) }
 
 others_shallow : {k : ℕ} (name : List ℕ) (d : Data) (ms : Members) → AreShallow k (member name d ms) → AreShallow k ms
-others_shallow name d ms all = record { no_float = neither (has_float d) _ all.no_float; within = omega (arith, all.within) }
-  where
-    neither : (a b : Bool) → (a || b) ≡ false → b ≡ false
-    neither true b e = absurd cc
-    neither false b e = e
+others_shallow name d ms all =
+    record { no_float = (or_parts (has_float d) _ all.no_float).1; within = omega (arith, all.within) }
 
 chosen_shallow : {k : ℕ} {a b c : Members} (o : Ordering) → AreShallow k a → AreShallow k b → AreShallow k c → AreShallow k (match_ordering o a b c)
 chosen_shallow Less x y z = x
@@ -68,7 +63,9 @@ put_shallow name (member other e ms) value all =
 field_shallow : {k : ℕ} {d : Data} {ms : Members} (key : Field) → AreShallow k ms → IsShallow k d → AreShallow k (with_field key d ms)
 field_shallow {k} {d} {ms} key all value = put_shallow _ ms value all
 
-some_shallow : {A : Type 0} {k : ℕ} {ms : Members} (key : Field) (written : A → Data) (o : Option A) → AreShallow k ms → ((x : A) → IsShallow k (written x)) → AreShallow k (with_some key written o ms)
+some_shallow :
+    {A : Type 0} {k : ℕ} {ms : Members} (key : Field) (written : A → Data) (o : Option A) → AreShallow k ms
+    → ((x : A) → IsShallow k (written x)) → AreShallow k (with_some key written o ms)
 some_shallow key written None all each = all
 some_shallow key written (Some x) all each = field_shallow key all (each x)
 
@@ -106,7 +103,10 @@ list_shallow written xs each =
     let all : _ = items_shallow written xs each in
     record { no_float = all.no_float; within = omega (arith, all.within) }
 
-list_field_shallow : {A : Type 0} {k : ℕ} {ms : Members} (key : Field) (written : A → Data) (xs : List A) → AreShallow (suc k) ms → ((x : A) → IsShallow k (written x)) → AreShallow (suc k) (with_list key written xs ms)
+list_field_shallow :
+    {A : Type 0} {k : ℕ} {ms : Members} (key : Field) (written : A → Data) (xs : List A)
+    → AreShallow (suc k) ms → ((x : A) → IsShallow k (written x))
+    → AreShallow (suc k) (with_list key written xs ms)
 list_field_shallow key written [] all each = all
 list_field_shallow key written (x ∷ xs) all each = field_shallow key all (list_shallow written (x ∷ xs) each)
 
@@ -130,7 +130,7 @@ style_key_shallow k key =
     let style : _ = field_shallow f.Style row (number_shallow (suc k) key.style) in
     object_shallow (field_shallow f.Rgba style (style_shallow k key.to))
 
-palette_of_shallow : (k : ℕ) (styles : List Style) (keys : List StyleKeyRecord) → IsShallow (suc (suc (suc (suc k)))) (palette_of styles keys)
+palette_of_shallow : (k : ℕ) (styles : List Style) (keys : List StyleKeyRecord) → IsShallow (suc (suc (suc (suc k)))) (palette_value styles keys)
 palette_of_shallow k styles [] = list_shallow style_data styles (style_shallow (suc (suc k)))
 palette_of_shallow k styles (key ∷ keys) =
     let entries : _ = field_shallow f.Styles (none_shallow (suc (suc (suc k)))) (list_shallow style_data styles (style_shallow (suc k))) in
@@ -189,7 +189,8 @@ word_shallow k word = field_shallow f.Op (none_shallow k) (text_shallow k word)
 
 listed_shallow : (k : ℕ) (word : List ℕ) (input : Ref) (key : Field) (numbers : List ℕ) → IsShallow (suc (suc k)) (listed_data word input key numbers)
 listed_shallow k word input key numbers =
-    object_shallow (field_shallow key (field_shallow f.Input (word_shallow (suc k) word) (ref_shallow k input)) (list_shallow number_data numbers (number_shallow k)))
+    object_shallow
+    (field_shallow key (field_shallow f.Input (word_shallow (suc k) word) (ref_shallow k input)) (list_shallow number_data numbers (number_shallow k)))
 
 node_shallow : (k : ℕ) (node : Node) → IsShallow (suc (suc k)) (node_data node)
 node_shallow k (node.Pair op first second) =

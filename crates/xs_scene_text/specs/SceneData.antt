@@ -7,10 +7,10 @@ use Rattle.serde_json.specs.View.{items_of}
 use Rattle.xs_pixel.specs.declared.style.Style.{Style}
 use Rattle.xs_pixel.specs.declared.operation.Op.{Op}
 use Rattle.xs_pixel.specs.declared.operation.Op.TheVariants as op
-use Rattle.xs_json.specs.declared.field.Field.{Field}
-use Rattle.xs_json.specs.declared.field.Field.TheVariants as f
-use Rattle.xs_json.specs.Fields.{field_text}
-use Rattle.xs_json.specs.Reading.{Reading}
+use Rattle.xs_fault.specs.declared.field.Field.{Field}
+use Rattle.xs_fault.specs.declared.field.Field.TheVariants as f
+use Rattle.xs_fault.specs.Fields.{field_text}
+use Rattle.xs_json.specs.Parsing.{Parsed}
 use Rattle.xs_scene.specs.Records.{StyleKeyRecord, ColoursRecord, CameraRecord, LevelRecord, PegKeyRecord, PegRecord, ExposureRecord, ColumnRecord, SheetRecord, SceneRecord}
 use Rattle.xs_scene.specs.declared.level.Kind.{Kind}
 use Rattle.xs_scene.specs.declared.level.Kind.TheVariants as kind
@@ -33,7 +33,7 @@ abbrev pub list_data : {A : Type 0} → (A → Data) → List A → Data
 list_data written xs = array (items_of (map written xs))
 
 -- what is written for x is read as x, wherever it stands
-abbrev pub IsReadAgain : {A : Type 0} → (List ℕ → Data → Reading A) → (A → Data) → A → Type 0
+abbrev pub IsReadAgain : {A : Type 0} → (List ℕ → Data → Parsed A) → (A → Data) → A → Type 0
 IsReadAgain reading written x = (at : List ℕ) → reading at (written x) ≡ Ok x
 
 -- ---- members
@@ -79,14 +79,14 @@ style_key_data key = object (no_members
     ▷ with_field f.Rgba (style_data key.to))
 
 -- a palette is written as the list of its styles where it has no keys
-abbrev pub palette_of : List Style → List StyleKeyRecord → Data
-palette_of styles [] = list_data style_data styles
-palette_of styles (key ∷ keys) = object (no_members
+abbrev pub palette_value : List Style → List StyleKeyRecord → Data
+palette_value styles [] = list_data style_data styles
+palette_value styles (key ∷ keys) = object (no_members
     ▷ with_field f.Styles (list_data style_data styles)
     ▷ with_field f.Keys (list_data style_key_data (key ∷ keys)))
 
 unfoldable pub palette_data : ColoursRecord → Data
-palette_data palette = palette_of palette.styles palette.keys
+palette_data palette = palette_value palette.styles palette.keys
 
 -- ---- levels
 

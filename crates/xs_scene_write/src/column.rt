@@ -5,8 +5,8 @@ ghost use Rattle.xs_scene_text.specs.SceneData.{with_shown};
 use crate::written::{Written, put, put_if_true, put_number, put_number_if_some, write_list};
 use serde_json::{Map, Value};
 use std::alloc::Global;
-use xs_json::Field;
-use xs_pixel::Memory;
+use xs_base::Memory;
+use xs_fault::Field;
 use xs_scene::{Column, Exposure, Shown};
 
 /// Puts what a cell shows.

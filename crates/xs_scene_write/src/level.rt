@@ -5,8 +5,8 @@ ghost use Rattle.xs_scene_text.specs.SceneData.{with_kind};
 use crate::written::{Written, put, put_number, put_text, write_list};
 use serde_json::{Map, Value};
 use std::alloc::Global;
-use xs_json::Field;
-use xs_pixel::Memory;
+use xs_base::Memory;
+use xs_fault::Field;
 use xs_scene::{Kind, Level, Name};
 
 impl Written for Name {

@@ -6,8 +6,9 @@ ghost use Rattle.xs_scene_text.specs.SceneData.{ref_data, listed_data, node_data
 use crate::written::{Written, put, put_number, put_text, write_numbers};
 use serde_json::{Map, Value};
 use std::alloc::Global;
-use xs_json::Field;
-use xs_pixel::{List, Memory, Op, Style};
+use xs_base::{List, Memory};
+use xs_fault::Field;
+use xs_pixel::{Op, Style};
 use xs_scene::{Node, Ref};
 use xs_scene_text::op_word;
 

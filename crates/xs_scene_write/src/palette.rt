@@ -1,8 +1,9 @@
 use crate::written::{Written, put, put_number, write_list};
 use serde_json::{Map, Value};
 use std::alloc::{AllocError, Global};
-use xs_json::Field;
-use xs_pixel::{Memory, Style};
+use xs_base::Memory;
+use xs_fault::Field;
+use xs_pixel::Style;
 use xs_scene::{Colours, StyleKey};
 
 impl Written for Style {

@@ -1,8 +1,8 @@
 use crate::written::{Written, put, put_if_true, put_list_if_any, put_number, put_number_if_some};
 use serde_json::{Map, Value};
 use std::alloc::Global;
-use xs_json::Field;
-use xs_pixel::Memory;
+use xs_base::Memory;
+use xs_fault::Field;
 use xs_scene::{Peg, PegKey};
 
 impl Written for PegKey {

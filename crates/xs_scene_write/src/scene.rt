@@ -6,8 +6,8 @@ ghost use Rattle.xs_scene_text.specs.SceneData.{IsReadAgain, scene_data};
 use crate::written::{Written, put, put_number, put_number_if_some, write_list};
 use serde_json::{Map, Value};
 use std::alloc::Global;
-use xs_json::Field;
-use xs_pixel::Memory;
+use xs_base::Memory;
+use xs_fault::Field;
 use xs_scene::{Camera, Scene};
 use xs_scene_text::what_is_written_is_read_again;
 

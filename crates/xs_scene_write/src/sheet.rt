@@ -5,8 +5,8 @@ ghost use Rattle.xs_scene_text.specs.SceneData.{list_data, ref_data, with_some};
 use crate::written::{Written, put, put_list_if_any, write_list};
 use serde_json::{Map, Value};
 use std::alloc::Global;
-use xs_json::Field;
-use xs_pixel::{List, Memory};
+use xs_base::{List, Memory};
+use xs_fault::Field;
 use xs_scene::{Ref, Sheet};
 
 /// Puts what is rendered of a sheet, if that is told.

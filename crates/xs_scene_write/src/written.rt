@@ -5,8 +5,8 @@ ghost use Rattle.xs_scene_text.specs.SceneData.{number_data, list_data, with_fie
 
 use serde_json::{Map, Value};
 use std::alloc::{AllocError, Global};
-use xs_json::Field;
-use xs_pixel::{List, Memory};
+use xs_base::{List, Memory};
+use xs_fault::Field;
 
 /// What is written into a scene text.
 pub trait Written: Sized + Drop {

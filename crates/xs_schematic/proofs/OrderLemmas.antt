@@ -11,13 +11,13 @@ use Rattle.xs_scene.specs.declared.node.Node.{Node}
 use Rattle.xs_scene.specs.declared.node.Node.TheVariants.{Pair, Card, Shuffle, Blur, Keep, Delete}
 use Rattle.xs_scene.specs.Records.{SheetRecord}
 use Rattle.xs_meaning.specs.Ends.{NodesEnd, InputsHave}
-use Rattle.xs_meaning.specs.Palettes.{is_listed}
+use Rattle.xs_base.specs.Listed.{is_listed}
 use Rattle.xs_meaning.specs.Inputs.{nodes_of, inputs_of}
-use Rattle.xs_schematic.specs.Once.{with_one}
+use Rattle.xs_base.specs.Once.{with_one}
 use Rattle.xs_schematic.specs.Order.{IsOrderable, IsOrder}
 use Rattle.xs_schematic.specs.Visits.{inputs_in, visit_all, visit_node, visits_of}
 use Rattle.xs_schematic.proofs.Standing.{IsBegun, IsBegun-nil, IsVisited, IsVisited-with_one, AreVisited-visit_all}
-use Rattle.xs_schematic.proofs.OnceLemmas.{Contains-listed}
+use Rattle.xs_base.proofs.OnceLemmas.{Contains-listed}
 
 pub Each-append : (P : ℕ → Type 0) (xs ys : List ℕ) → Each P xs → Each P ys → Each P (xs ++ ys)
 Each-append P [] ys first second = second
@@ -36,7 +36,8 @@ ends_of k m (ToNode n) ends = (ends, tt)
 
 inputs_end : (k : SheetRecord) (m : ℕ) (node : Option Node) → InputsHave (NodesEnd k m) node → Each (Ends k m) (option_map_or inputs_of node [])
 inputs_end k m None ends = tt
-inputs_end k m (Some (Pair op first second)) ends = Each-append (Ends k m) (nodes_of first) (nodes_of second) (ends_of k m first ends.0) (ends_of k m second ends.1)
+inputs_end k m (Some (Pair op first second)) ends =
+    Each-append (Ends k m) (nodes_of first) (nodes_of second) (ends_of k m first ends.0) (ends_of k m second ends.1)
 inputs_end k m (Some (Card style)) ends = tt
 inputs_end k m (Some (Shuffle input list)) ends = ends_of k m input ends
 inputs_end k m (Some (Blur input radius)) ends = ends_of k m input ends
@@ -110,7 +111,10 @@ visit_all-append visit [] ns order = refl
 visit_all-append visit (m ∷ ms) ns order = visit_all-append visit ms ns (visit m order)
 
 range_with_len_more : (a n : ℕ) → range_with_len a (n + 1) ≡ range_with_len a n ++ (a + n) ∷ []
-range_with_len_more a n = sym (map-id (range_with_len a (n + 1))) ∙ map-range_with_len_more (λ k. k) a n (a + n) refl ∙ ap (λ xs. xs ++ (a + n) ∷ []) (map-id (range_with_len a n))
+range_with_len_more a n =
+    sym (map-id (range_with_len a (n + 1)))
+    ∙ map-range_with_len_more (λ k. k) a n (a + n) refl
+    ∙ ap (λ xs. xs ++ (a + n) ∷ []) (map-id (range_with_len a n))
 
 -- the visit to the next number
 pub visits_more :

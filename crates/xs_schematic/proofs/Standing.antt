@@ -6,10 +6,10 @@ use Rattle.std.proofs.lemmas.List.{get_or_default, get_or_append_left, get_or_at
 use Rattle.std.proofs.lemmas.List.Elements.{All-push, Contains-push, Contains-append_left}
 use Rattle.std.proofs.lemmas.List.Quantifiers.{all_pairs_push}
 use Rattle.xs_scene.specs.declared.node.Node.{Node}
-use Rattle.xs_meaning.specs.Palettes.{is_listed}
+use Rattle.xs_base.specs.Listed.{is_listed}
 use Rattle.xs_schematic.specs.Visits.{inputs_in, visit_all}
-use Rattle.xs_schematic.specs.Once.{with_one}
-use Rattle.xs_schematic.proofs.OnceLemmas.{Contains-listed, unlisted-Contains}
+use Rattle.xs_base.specs.Once.{with_one}
+use Rattle.xs_base.proofs.OnceLemmas.{Contains-listed, unlisted-Contains}
 
 -- an order so far: nodes of the sheet, each once, each after its inputs
 pub record IsBegun (nodes : List Node) (order : List ℕ) : Type 0 where
@@ -38,7 +38,8 @@ IsBegun-push nodes order n node new inputs begun =
     earlier : (i : ℕ) → i < length order → All (Contains (take i (order ++ n ∷ []))) (inputs_in nodes (get_or (order ++ n ∷ []) i 0))
     earlier i lt =
         subst (λ (m : ℕ). All (Contains (take i (order ++ n ∷ []))) (inputs_in nodes m)) (sym (get_or_append_left order (n ∷ []) 0 i lt))
-        (subst (λ (front : List ℕ). All (Contains front) (inputs_in nodes (get_or order i 0))) (sym (take-append-le i order (n ∷ []) (omega arith))) (begun.after i lt))
+        (subst (λ (front : List ℕ). All (Contains front) (inputs_in nodes (get_or order i 0)))
+        (sym (take-append-le i order (n ∷ []) (omega arith))) (begun.after i lt))
 
     last : (i : ℕ) → length order ≡ i → All (Contains (take i (order ++ n ∷ []))) (inputs_in nodes (get_or (order ++ n ∷ []) i 0))
     last i at =

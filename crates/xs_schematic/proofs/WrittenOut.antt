@@ -8,12 +8,12 @@ use Rattle.xs_scene.specs.declared.node.Ref.TheVariants.{Node as ToNode}
 use Rattle.xs_scene.specs.declared.node.Node.{Node}
 use Rattle.xs_scene.specs.Records.{SheetRecord}
 use Rattle.xs_meaning.specs.Ends.{NodesEnd}
-use Rattle.xs_meaning.specs.Palettes.{is_listed}
-use Rattle.xs_schematic.specs.Once.{with_one, with_each, each_once}
+use Rattle.xs_base.specs.Listed.{is_listed}
+use Rattle.xs_base.specs.Once.{with_one, with_each, each_once}
 use Rattle.xs_schematic.specs.Order.{IsOrderable, made_from, all_made_from}
 use Rattle.xs_schematic.specs.Visits.{inputs_in, visit_all, visit_node, visits_of}
 use Rattle.xs_schematic.proofs.Standing.{IsBegun, IsBegun-nil}
-use Rattle.xs_schematic.proofs.OnceLemmas.{Contains-listed, with_each-nil, with_each-one, with_each-append, with_each-known}
+use Rattle.xs_base.proofs.OnceLemmas.{Contains-listed, with_each-nil, with_each-one, with_each-append, with_each-known}
 use Rattle.xs_schematic.proofs.OrderLemmas.{Each-append, IsVisited-visit_node, inputs_that_end, numbers_that_end}
 
 Contains-of-take : (order : List ℕ) (i x : ℕ) → Contains (take i order) x → Contains order x

@@ -1,3 +1,2 @@
-pub mod Once
 pub mod Visits
 pub mod Order

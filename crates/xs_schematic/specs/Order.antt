@@ -1,4 +1,5 @@
 use Rattle.std.specs.Prelude.{ℕ, zero, suc, ◌<◌, ◌≤◌, ◌≢◌, List, [], ◌∷◌, ◌++◌, All, AllPairs, Contains, length, take, flat_map, slice_index}
+use Rattle.xs_base.specs.declared.limits.TheConstants.{MOST_NODES}
 use Rattle.std.specs.List.{range_with_len}
 use Rattle.xs_scene.specs.declared.node.Node.{Node}
 use Rattle.xs_scene.specs.declared.node.Ref.TheVariants.{Node as ToNode}
@@ -9,7 +10,7 @@ use Rattle.xs_schematic.specs.Visits.{inputs_in}
 -- what checking finds of a sheet's nodes: they are few, their inputs are there, and no node leads back
 -- to itself
 pub record IsOrderable (k : SheetRecord) : Type 0 where
-  pub few : length k.nodes ≤ 256
+  pub few : length k.nodes ≤ MOST_NODES
   pub inputs : (n : ℕ) → n < length k.nodes → All (λ m. m < length k.nodes) (inputs_in k.nodes n)
   pub ends : (n : ℕ) → n < length k.nodes → NodesEnd k (length k.nodes) (ToNode n)
 

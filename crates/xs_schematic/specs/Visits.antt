@@ -1,10 +1,10 @@
 use Rattle.std.specs.Prelude.{ℕ, zero, suc, List, [], ◌∷◌, length, slice_get, if◌then◌else◌}
 use Rattle.std.specs.Option.{option_map_or}
 use Rattle.std.specs.List.{range_with_len}
-use Rattle.xs_meaning.specs.Palettes.{is_listed}
+use Rattle.xs_base.specs.Listed.{is_listed}
 use Rattle.xs_scene.specs.declared.node.Node.{Node}
 use Rattle.xs_meaning.specs.Inputs.{inputs_of}
-use Rattle.xs_schematic.specs.Once.{with_one}
+use Rattle.xs_base.specs.Once.{with_one}
 
 -- the inputs of a node of a sheet that are nodes, and none where the sheet lacks it
 abbrev pub inputs_in : List Node → ℕ → List ℕ

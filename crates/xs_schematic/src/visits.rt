@@ -2,12 +2,12 @@ ghost use Rattle.std.specs.Prelude.{◌≡◌, ◌++◌, IfOk, OnOk};
 ghost use Rattle.std.specs.Option.{option_to_list};
 ghost use Rattle.xs_meaning.specs.Inputs.{nodes_of};
 ghost use Rattle.xs_schematic.specs.Visits.{visit_node, visit_all, inputs_in};
-ghost use Rattle.xs_schematic.specs.Once.{each_once, with_one};
+ghost use Rattle.xs_base.specs.Once.{each_once, with_one};
 ghost use Rattle.xs_schematic.specs.Order.{IsOrderable, IsOrder, all_made_from};
 
 use std::alloc::{AllocError, Global};
-use xs_pixel::Memory;
-use xs_scene::{Node, Ref, Sheet};
+use xs_base::Memory;
+use xs_scene::{Inputs, Node, Ref, Sheet};
 
 /// The nodes of a sheet in an order in which they can be made: every node once, each after its inputs.
 /// They are visited by rising number, and what a node is made from before it, the first input before the
@@ -75,13 +75,13 @@ fn put(order: &mut Vec<u32>, number: u32) -> Result<(), Memory>
 fn inputs_at(nodes: &[Node], number: u32) -> (Option<u32>, Option<u32>)
     ensures { option_to_list result.0 ++ option_to_list result.1 ≡ inputs_in nodes.now number }
 {
-    match nodes.get(number as usize) {
-        Some(Node::Pair { first, second, .. }) => (node_in(*first), node_in(*second)),
-        Some(Node::Shuffle { input, .. })
-        | Some(Node::Blur { input, .. })
-        | Some(Node::Keep { input, .. })
-        | Some(Node::Delete { input, .. }) => (node_in(*input), None),
-        Some(Node::Card(_)) | None => (None, None),
+    let Some(node) = nodes.get(number as usize) else {
+        return (None, None);
+    };
+    match node.inputs() {
+        Inputs::Zero => (None, None),
+        Inputs::One(input) => (node_in(input), None),
+        Inputs::Two { first, second } => (node_in(first), node_in(second)),
     }
 }
 

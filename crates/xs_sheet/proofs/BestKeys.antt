@@ -29,7 +29,8 @@ module _ (choice : List PegKeyRecord → Option PegKeyRecord) (next : Option Peg
   pub taken : (best new : Option PegKeyRecord) → IsBest (take i keys) best → p key ≡ true → P (next best key) → new ≡ Some (next best key)
       → IsBest (take (i + 1) keys) new
   taken best new was passes here is = (
-    is ∙ ap (λ o. Some (next o key)) was.0 ∙ ap (λ b. cond b (Some (next (choice (filter p (take i keys))) key)) (choice (filter p (take i keys)))) (sym passes) ∙ sym more,
+    is ∙ ap (λ o. Some (next o key)) was.0 ∙ ap (λ b. cond b (Some (next (choice (filter p (take i keys))) key)) (choice (filter p (take i keys))))
+        (sym passes) ∙ sym more,
     subst (λ o. IfSome o P) (sym is) here,
   )
 

@@ -1,9 +1,10 @@
 ghost use Rattle.std.specs.Prelude.{◌≡◌, ◌≤◌, ◌<◌, IfSome};
+ghost use Rattle.xs_base.specs.declared.limits.TheConstants.{LAST_ROW};
 ghost use Rattle.xs_scene.specs.Ranges.{IsOffset, IsPegKey};
 ghost use Rattle.xs_meaning.specs.Keys.{newest, nearest};
 ghost use Rattle.xs_meaning.specs.Places.{key_in_force, key_after, offset_from, on_line};
 ghost use Rattle.xs_meaning.specs.Places.{own_offset as offset_at};
-ghost use Rattle.xs_meaning.specs.Points.{point};
+ghost use Rattle.xs_pixel.specs.Points.{point};
 
 use xs_meaning::rules::lines_stay_between_their_keys;
 use xs_scene::{Peg, PegKey};
@@ -97,7 +98,7 @@ fn coordinate(from: i32, to: i32, done: u32, whole: u32) -> i32
     requires start { IsOffset from }
     requires end { IsOffset to }
     requires rows { done < whole }
-    requires few { whole ≤ 9999 }
+    requires few { whole ≤ LAST_ROW }
     ensures value { result ≡ on_line from to done whole }
     ensures within { IsOffset result }
 {

@@ -9,5 +9,5 @@ mod pegs;
 
 pub use cells::cell;
 pub use keys::own_offset;
-pub use pegs::place;
+pub use pegs::{Pegs, place, place_among};
 pub use xs_scene::Seen;

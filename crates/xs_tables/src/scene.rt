@@ -4,7 +4,7 @@ use std::alloc::Global;
 use std::rt::Files;
 use std::{fs, io};
 use xs_check::{GoodScene, check};
-use xs_json::{FieldFault, SceneCode, SceneFault};
+use xs_fault::{FieldFault, SceneCode, SceneFault};
 use xs_scene_json::{decode, encode};
 
 /// The scene that a text says, checked.

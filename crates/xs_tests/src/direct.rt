@@ -4,8 +4,8 @@ use crate::scenes::{OF_A_CARD, good_scene};
 use std::alloc::Global;
 use std::marker::Brand;
 use std::test::Fail;
+use xs_base::List;
 use xs_direct::{are_drawings_held, frame_direct};
-use xs_pixel::List;
 use xs_rawfile::{Drawing, Drawings, RawKind};
 
 /// The drawing, held; none without it.

@@ -2,8 +2,8 @@
 
 use std::alloc::{AllocError, Global};
 use std::test::Fail;
-use xs_graph::{Told, first_by_labels, first_by_search, first_long, first_on_cycle};
-use xs_pixel::List;
+use xs_base::List;
+use xs_graph::{ByLabels, first_by_labels, first_by_search, first_long, first_on_cycle};
 
 /// The nodes among the first three that the last three bits of a number tell.
 fn targets(alloc: Global, bits: u32) -> Result<List<u32>, AllocError> {
@@ -33,7 +33,7 @@ fn labels_tell_the_first_node_on_a_cycle(rt: HostRuntime) -> Result<(), Fail> {
         let first = first_by_search(alloc, &links)?;
         assert_eq!(rt; first_on_cycle(alloc, &links)?, first, "graph {bits}");
         let told = first_by_labels(alloc, &links)?;
-        assert_eq!(rt; told, Told::First(first), "graph {bits}");
+        assert_eq!(rt; told, ByLabels::First(first), "graph {bits}");
     }
     Ok(())
 }

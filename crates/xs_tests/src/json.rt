@@ -2,10 +2,8 @@
 
 use serde_json::Value;
 use std::test::Fail;
-use xs_json::{
-    Field, FieldFault, Path, Place, SceneCode, all_there, fault_at, flag, list, object, optional,
-    required, text, whole,
-};
+use xs_fault::{Field, FieldFault, Path, Place, SceneCode, fault_at};
+use xs_json::{all_there, flag, list, object, optional, required, text, whole};
 
 #[test]
 fn paths_are_printed(rt: HostRuntime) -> Result<(), Fail> {
@@ -33,18 +31,18 @@ fn fields_are_read(rt: HostRuntime) -> Result<(), Fail> {
         .ok()
         .ok_or("the object has these keys")?;
     if let Some(v) = optional(map, Field::W) {
-        assert!(rt; matches!(whole(alloc, v, &root, 1, 4096), Ok(4096)));
+        assert!(rt; matches!(whole(alloc, v, &Place::here(&root), 1, 4096), Ok(4096)));
     }
     if let Some(v) = optional(map, Field::Kind) {
-        assert!(rt; matches!(text(alloc, v, &root), Ok("cm32")));
+        assert!(rt; matches!(text(alloc, v, &Place::here(&root)), Ok("cm32")));
     }
     if let Some(v) = optional(map, Field::Off) {
-        assert!(rt; matches!(flag(alloc, v, &root), Ok(true)));
+        assert!(rt; matches!(flag(alloc, v, &Place::here(&root)), Ok(true)));
     }
     let cells = required(alloc, map, &root, Field::Cells)
         .ok()
         .ok_or("the field is there")?;
-    assert!(rt; list(alloc, cells, &root).is_ok_and(|cells| cells.len() == 2));
+    assert!(rt; list(alloc, cells, &Place::here(&root)).is_ok_and(|cells| cells.len() == 2));
     Ok(())
 }
 

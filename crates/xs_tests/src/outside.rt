@@ -2,11 +2,11 @@
 
 use std::alloc::{AllocError, Global};
 use std::test::Fail;
+use xs_base::Memory;
 use xs_outside::{
     Fetched, Library, MemLibrary, MemNotes, MemShelf, Noted, Notes, Object, Put, QuietLibrary,
     Shelf,
 };
-use xs_pixel::Memory;
 
 /// Two files of one name, with one byte and with two.
 fn two_files(alloc: Global) -> Result<Vec<Object>, Memory> {

@@ -2,7 +2,8 @@
 
 use std::alloc::{AllocError, AllocFailed};
 use std::test::Fail;
-use xs_pixel::{List, Memory, Op, Pixel, Style, apply};
+use xs_base::{List, Memory};
+use xs_pixel::{Op, Pixel, Style, apply};
 
 /// An operation, its upper and lower pixel, and the result.
 type Vector = (Op, [u8; 4], [u8; 4], [u8; 4]);

@@ -3,8 +3,9 @@
 use std::alloc::Global;
 use std::marker::Brand;
 use std::test::Fail;
+use xs_base::List;
 use xs_palette::Palette;
-use xs_pixel::{List, Pixel, Style};
+use xs_pixel::{Pixel, Style};
 use xs_raster::Raster;
 use xs_rawfile::{
     Drawing, Drawings, LevelCode, LevelFault, RawKind, frame_bytes, read_level, write_level,

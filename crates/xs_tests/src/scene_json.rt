@@ -1,7 +1,7 @@
 //! A scene text that is read and written, and one with faults.
 
 use std::test::Fail;
-use xs_json::FieldFault;
+use xs_fault::FieldFault;
 use xs_scene_json::{decode, encode};
 
 const TEXT: &[u8] =

@@ -6,9 +6,11 @@ ghost use Rattle.xs_schematic.specs.Order.{IsOrderable};
 use crate::scenes::{OF_EACH_KIND, good_scene};
 use std::alloc::Global;
 use std::test::Fail;
-use xs_pixel::{List, Op, Style};
+use xs_base::List;
+use xs_pixel::{Op, Style};
 use xs_scene::{Node, Ref, Sheet};
-use xs_schematic::{order, terminals};
+use xs_schematic::order;
+use xs_step::{At, Spot, Step, step_at};
 
 /// Node 0 is made from 3 and 1, both of these from 4, and 2 from 0.
 fn sheet(alloc: Global) -> Result<Sheet, Fail>
@@ -58,7 +60,16 @@ fn each_node_comes_once_after_its_inputs_where_it_is_first_met(
 fn columns_that_are_off_are_not_rendered(rt: HostRuntime) -> Result<(), Fail> {
     let scene = good_scene(rt.alloc(), OF_EACH_KIND)?;
     scene.scene();
-    let rendered = terminals(rt.alloc(), scene.sheet(0))?;
-    assert_eq!(rt; rendered.as_slice(), [Ref::Column(1)].as_slice());
+    let spot = Spot {
+        sheet: 0,
+        at: At::Row,
+        row: 1,
+    };
+    let Step::Over(terminals) = step_at(&scene, spot) else {
+        return Err(Fail::from("a row"));
+    };
+    let (lowest, above) = terminals.split_first().ok_or("a terminal")?;
+    assert_eq!(rt; lowest, Ref::Column(1));
+    assert!(rt; above.split_last().is_none());
     Ok(())
 }

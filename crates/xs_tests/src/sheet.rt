@@ -2,7 +2,7 @@
 
 use std::alloc::Global;
 use std::test::Fail;
-use xs_pixel::{List, Memory};
+use xs_base::{List, Memory};
 use xs_scene::{Peg, PegKey};
 use xs_sheet::own_offset;
 

@@ -2,8 +2,9 @@
 
 use std::alloc::Global;
 use std::test::Fail;
+use xs_base::List;
 use xs_palette::Palette;
-use xs_pixel::{List, Style};
+use xs_pixel::Style;
 use xs_scene::{Colours, StyleKey};
 use xs_tint::{Dropped, Tints, palette_at};
 

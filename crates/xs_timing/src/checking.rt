@@ -4,8 +4,9 @@ use std::alloc::Global;
 use std::io;
 use std::rt::Clock;
 use std::time::{Duration, Instant};
+use xs_base::List;
 use xs_check::check;
-use xs_pixel::{List, Op};
+use xs_pixel::Op;
 use xs_scene::{Camera, Column, Exposure, Kind, Level, Name, Node, Peg, Ref, Scene, Sheet, Shown};
 
 /// The cells of a column of the large sheet.

@@ -7,9 +7,9 @@ use std::io;
 use std::marker::Brand;
 use std::rt::Clock;
 use std::time::Instant;
+use xs_base::List;
 use xs_check::{GoodScene, check};
 use xs_direct::frame_direct;
-use xs_pixel::List;
 use xs_rawfile::{Drawing, Drawings, RawKind};
 use xs_scene_json::decode;
 

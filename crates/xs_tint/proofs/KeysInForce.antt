@@ -39,7 +39,9 @@ set_to (Some best) key written r s positive same row = (
     at false = refl
 
 -- an element of a list that may have been written at a place
-at_place : {X : Type 0} (b : Bool) (xs : List X) (place k : ℕ) (x d : X) → k < length xs → place ≡ k → get_or (cond b (set xs place x) xs) k d ≡ cond b x (get_or xs k d)
+at_place :
+    {X : Type 0} (b : Bool) (xs : List X) (place k : ℕ) (x d : X) → k < length xs → place ≡ k
+    → get_or (cond b (set xs place x) xs) k d ≡ cond b x (get_or xs k d)
 at_place true xs place k x d within same = subst (λ n. get_or (set xs n x) k d ≡ x) (sym same) (get_or-set_same xs k x d within)
 at_place false xs place k x d within same = refl
 
@@ -47,7 +49,9 @@ elsewhere : {X : Type 0} (b : Bool) (xs : List X) (place k : ℕ) (x d : X) → 
 elsewhere true xs place k x d differ = get_or-set_other xs place k x d (λ same. differ (sym same))
 elsewhere false xs place k x d differ = refl
 
-sets_here : (key : StyleKeyRecord) (row k : ℕ) (rows : List ℕ) → key.style ≡ k → k < length rows → leb key.row row ≡ true → sets key row rows ≡ ltb (get_or rows k 0) key.row
+sets_here :
+    (key : StyleKeyRecord) (row k : ℕ) (rows : List ℕ) → key.style ≡ k → k < length rows
+    → leb key.row row ≡ true → sets key row rows ≡ ltb (get_or rows k 0) key.row
 sets_here key row k rows same within passes =
     ap (λ b. b && (ltb key.style (length rows) && ltb (get_or rows key.style 0) key.row)) passes
     ∙ ap (λ n. ltb n (length rows) && ltb (get_or rows n 0) key.row) same
@@ -134,7 +138,11 @@ AreTaken-more written keys i row key styles after rows rows_after within is posi
       set_by = λ k inside. ap (λ xs. get_or xs k 0) new_rows ∙ (at k key.to inside).1;
     }
   where
-    at : (k : ℕ) (d : Style) → k < length written → IsTaken (get_or written k d) (take (i + 1) keys) row k (get_or (cond (sets key row rows) (set styles key.style key.to) styles) k d) (get_or (cond (sets key row rows) (set rows key.style key.row) rows) k 0)
+    at :
+        (k : ℕ) (d : Style) → k < length written
+        → IsTaken (get_or written k d) (take (i + 1) keys) row k
+        (get_or (cond (sets key row rows) (set styles key.style key.to) styles) k d)
+        (get_or (cond (sets key row rows) (set rows key.style key.row) rows) k 0)
     at k d inside =
         taken_at keys i row k key (get_or written k d) d styles rows within is positive (omega (arith, taken.styles_length)) (omega (arith, taken.rows_length))
         (taken.set k d inside, taken.set_by k inside) (cases_eq key.style k) (cases_Bool (leb key.row row))

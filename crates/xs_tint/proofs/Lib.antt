@@ -1,4 +1,4 @@
-pub mod Marks
-pub mod KeysInForce
-pub mod ShownStyles
-pub mod SameTints
+mod Marks
+mod KeysInForce
+mod ShownStyles
+mod SameTints

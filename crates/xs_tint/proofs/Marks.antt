@@ -5,7 +5,8 @@ use Rattle.std.proofs.lemmas.Bool.{cases_eq, cases_lt, eq-eqb, ne_eqb, or_right,
 use Rattle.std.proofs.lemmas.List.{get_or_past}
 use Rattle.std.proofs.lemmas.List.Folds.{list_any_more, list_any_none}
 use Rattle.xs_scene.specs.Ranges.{IsFiltered}
-use Rattle.xs_meaning.specs.Palettes.{none_dropped, is_listed}
+use Rattle.xs_meaning.specs.Palettes.{none_dropped}
+use Rattle.xs_base.specs.Listed.{is_listed}
 use Rattle.xs_tint.specs.Filters.{dropped_by, drops, filtering}
 
 keeps : (a b : Bool) → b ≡ false → a ≡ (a || b)
@@ -57,7 +58,10 @@ pub filtering-by_flags :
 filtering-by_flags keep styles was marks new filtered was_long new_long marked filters =
     fun_ext (λ k. ⊎_elim (inside keep k filters) (beyond keep k) (cases_lt k 4096))
   where
-    inside : (keep : Bool) (k : ℕ) → ((k : ℕ) → k < 4096 → get_or new k false ≡ drops keep (get_or was k false) (get_or marks k false)) → k < 4096 → get_or new k false ≡ filtering keep styles (dropped_by was) k
+    inside :
+        (keep : Bool) (k : ℕ)
+        → ((k : ℕ) → k < 4096 → get_or new k false ≡ drops keep (get_or was k false) (get_or marks k false))
+        → k < 4096 → get_or new k false ≡ filtering keep styles (dropped_by was) k
     inside true k filters small =
         filters k small ∙ ap (λ b. get_or was k false || not b) (marked k small)
         ∙ ap (λ b. get_or was k false || (b && not (is_listed styles k))) (sym (lt-ltb k 4096 small))

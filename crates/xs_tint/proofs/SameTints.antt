@@ -9,7 +9,8 @@ use Rattle.std.proofs.lemmas.List.{get_or_default, map-append, length-map}
 use Rattle.std.proofs.lemmas.List.Quantifiers.{all_pairs_push}
 use Rattle.xs_pixel.specs.Channels.{Channels, clear}
 use Rattle.xs_palette.specs.Styles.{style_of}
-use Rattle.xs_tint.proofs.ShownStyles.{get_or-styles, style_of-past}
+use Rattle.xs_palette.proofs.LookUp.{style_of-past}
+use Rattle.xs_tint.proofs.ShownStyles.{get_or-styles}
 use Rattle.xs_meaning.specs.Palettes.{without_clear_end}
 use Rattle.xs_tint.specs.Tints.{tint_of}
 
@@ -28,7 +29,10 @@ module _ (same_pixels : (xs : List Channels) (i : ℕ) → get_or (without_clear
       (count : ℕ) → length a ≤ count → length b ≤ count → ((id : ℕ) → id < count → style_of a id ≡ style_of b id) → tint_of a ≡ tint_of b
   tint-from_styles count of_a of_b same =
       one_list (map (style_of a) (range_with_len 0 (length a))) (map (style_of b) (range_with_len 0 (length b)))
-      (λ id. get_or-styles a id ∙ ⊎_elim (same id) (λ past. style_of-past a id (omega arith) ∙ sym (style_of-past b id (omega arith))) (cases_lt id count) ∙ sym (get_or-styles b id))
+      (λ id.
+      get_or-styles a id
+      ∙ ⊎_elim (same id) (λ past. style_of-past a id (omega arith) ∙ sym (style_of-past b id (omega arith))) (cases_lt id count)
+      ∙ sym (get_or-styles b id))
 
 pub same_test : (p q : Channels) → p ≡ q → (eqb p.r q.r && (eqb p.g q.g && (eqb p.b q.b && eqb p.m q.m))) ≡ true
 same_test p q same =

@@ -11,6 +11,7 @@ use Rattle.xs_pixel.specs.Channels.{Channels, clear}
 use Rattle.xs_pixel.specs.Operations.{product}
 use Rattle.xs_pixel.specs.declared.style.Style.{Style}
 use Rattle.xs_palette.specs.Styles.{written, style_of}
+use Rattle.xs_palette.proofs.LookUp.{style_of-past}
 use Rattle.xs_scene.specs.Records.{ColoursRecord}
 use Rattle.xs_meaning.specs.Palettes.{Dropped, style_at, key_at, keyed, keyed_pixel, pixel_of}
 use Rattle.xs_tint.specs.declared.shown.TheConstants.{NO_COLOUR}
@@ -50,14 +51,13 @@ style_of-shown c row f styles lacking long shown = fun_ext at
         (λ past. get_or_past (written styles) (suc id) clear (omega (arith, length-map styles pixel_of, long)) ∙ sym (lacking (suc id) past))
         (cases_lt (suc id) (length c.styles))
 
-pub style_of-past : (palette : List Channels) (id : ℕ) → length palette ≤ id → style_of palette id ≡ clear
-style_of-past palette zero past = refl
-style_of-past palette (suc id) past = get_or_past palette (suc id) clear past
-
 -- the pixels of the styles of a palette, one by one
 pub get_or-styles : (palette : List Channels) (id : ℕ) → get_or (map (style_of palette) (range_with_len 0 (length palette))) id clear ≡ style_of palette id
 get_or-styles palette id =
     ⊎_elim
     (λ inside. get_or-map-range_with_len (style_of palette) 0 (length palette) id id clear inside (omega arith))
-    (λ past. get_or_past (map (style_of palette) (range_with_len 0 (length palette))) id clear (omega (arith, length-map-range_with_len (style_of palette) 0 (length palette))) ∙ sym (style_of-past palette id past))
+    (λ past.
+    get_or_past (map (style_of palette) (range_with_len 0 (length palette))) id clear
+    (omega (arith, length-map-range_with_len (style_of palette) 0 (length palette)))
+    ∙ sym (style_of-past palette id past))
     (cases_lt id (length palette))

@@ -1,14 +1,14 @@
 ghost use Rattle.std.specs.Prelude.{◌≡◌, ℕ, ◌<◌, All, false, length, slice_index_or, IfOk};
+ghost use Rattle.xs_base.specs.declared.limits.TheConstants.{STYLE_NUMBERS};
 ghost use Rattle.xs_scene.specs.Ranges.{IsFiltered};
-ghost use Rattle.xs_meaning.specs.Palettes.{none_dropped, is_listed};
+ghost use Rattle.xs_meaning.specs.Palettes.{none_dropped};
+ghost use Rattle.xs_base.specs.Listed.{is_listed};
 ghost use Rattle.xs_tint.specs.Filters.{dropped_by, filtering};
 
 use std::alloc::Global;
 use std::marker::Model;
-use xs_pixel::{List, Memory};
-
-/// How many styles a filter can name: those whose number is less.
-const NAMEABLE: usize = 4096;
+use xs_base::limits::STYLE_NUMBERS;
+use xs_base::{List, Memory};
 
 /// The styles that filters on the way to a drawing have dropped: these are clear there. Contracts see
 /// it as one flag for each style from 0 on, in which `dropped_by` looks one up.
@@ -19,13 +19,13 @@ pub struct Dropped {
 
 impl Model for Dropped {
     ghost use Rattle.std.specs.Prelude.{◌≡◌, List, Bool, length};
-    ghost use Rattle.xs_tint.specs.declared.dropped.TheConstants.{NAMEABLE};
+    ghost use Rattle.xs_base.specs.declared.limits.TheConstants.{STYLE_NUMBERS};
 
     ghost Value = { List Bool };
 
     ghost view = { λ d. d.flags.items };
 
-    ghost invariant = { λ d. length d.flags.items ≡ NAMEABLE };
+    ghost invariant = { λ d. length d.flags.items ≡ STYLE_NUMBERS };
 }
 
 impl Dropped {
@@ -34,7 +34,7 @@ impl Dropped {
         ensures { IfOk result (λ d. dropped_by d ≡ none_dropped) }
     {
         Ok(Dropped {
-            flags: vec![in alloc; false; NAMEABLE]?,
+            flags: vec![in alloc; false; STYLE_NUMBERS as usize]?,
         })
     }
 
@@ -46,7 +46,7 @@ impl Dropped {
     {
         let was = self.flags.as_slice();
         let mut flags = marks(alloc, styles.items())?;
-        for id in 0..NAMEABLE {
+        for id in 0..STYLE_NUMBERS as usize {
             flags[id] = was[id] || flags[id] != keep;
         }
         Ok(Dropped { flags })
@@ -57,17 +57,17 @@ impl Dropped {
         ensures { result ≡ dropped_by self.now id }
     {
         let id = id as usize;
-        id < NAMEABLE && self.flags[id]
+        id < STYLE_NUMBERS as usize && self.flags[id]
     }
 }
 
 /// A flag for each style that a filter can name: whether it is one of these.
 fn marks(alloc: Global, styles: &[u32]) -> Result<Vec<bool>, Memory>
     requires { All IsFiltered styles.now }
-    ensures len { IfOk result (λ marks. length marks.items ≡ NAMEABLE) }
-    ensures listed { IfOk result (λ marks. (k : ℕ) → k < NAMEABLE → slice_index_or marks.items k false ≡ is_listed styles.now k) }
+    ensures len { IfOk result (λ marks. length marks.items ≡ STYLE_NUMBERS) }
+    ensures listed { IfOk result (λ marks. (k : ℕ) → k < STYLE_NUMBERS → slice_index_or marks.items k false ≡ is_listed styles.now k) }
 {
-    let mut marks = vec![in alloc; false; NAMEABLE]?;
+    let mut marks = vec![in alloc; false; STYLE_NUMBERS as usize]?;
     for style in styles {
         marks[*style as usize] = true;
     }

@@ -1,4 +1,5 @@
 ghost use Rattle.std.specs.Prelude.{◌≡◌, ℕ, ◌<◌, ◌≤◌, ◌^◌, length, slice_index_or, slice_set, vec_len, IfOk, if◌then◌else◌};
+ghost use Rattle.xs_base.specs.declared.limits.TheConstants.{MOST_STYLES};
 ghost use Rattle.xs_pixel.specs.declared.style.Style.{Style as StyleOf};
 ghost use Rattle.xs_palette.specs.Styles.{style_of};
 ghost use Rattle.xs_meaning.specs.Palettes.{style_at, tint_at, key_at, keyed};
@@ -8,9 +9,10 @@ ghost use Rattle.xs_tint.specs.KeysTaken.{sets};
 
 use crate::dropped::Dropped;
 use std::alloc::Global;
+use xs_base::Memory;
 use xs_meaning::filters::{palette_keys_are_chosen_by_row, tint_is_canonical};
 use xs_palette::{Palette, PaletteFault};
-use xs_pixel::{Memory, Style};
+use xs_pixel::Style;
 use xs_scene::{Colours, StyleKey};
 
 /// What a dropped style has in place of its own colour.
@@ -24,7 +26,7 @@ const NO_COLOUR: Style = Style {
 /// The palette that shows at a row: style 0 and each dropped style is clear, another one is what the key
 /// in force sets it to, or else as it is written.
 pub fn palette_at(alloc: Global, c: &Colours, row: u32, f: &Dropped) -> Result<Palette, Memory>
-    requires { length c.now.styles ≤ 4096 }
+    requires { length c.now.styles ≤ MOST_STYLES }
     ensures styles { IfOk result (λ p. style_of p ≡ style_at c.now row (dropped_by f.now)) }
     ensures tint { IfOk result (λ p. tint_of p ≡ tint_at c.now row (dropped_by f.now)) }
 {

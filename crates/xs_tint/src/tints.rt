@@ -3,9 +3,9 @@ ghost use Rattle.xs_tint.specs.Tints.{tint_of};
 
 use std::alloc::{AllocError, Global};
 use std::marker::Model;
+use xs_base::Memory;
 use xs_meaning::filters::clear_pixels_at_the_end_tell_nothing;
 use xs_palette::Palette;
-use xs_pixel::Memory;
 
 /// The palettes of a render that give their styles other pixels than written, each with one number.
 /// Contracts see it as the list of their tints, which differ.

@@ -3,21 +3,22 @@ use Rattle.std.proofs.Common.{◌≡◌, ℕ, ◌+◌, ◌-◌, ◌≤◌, Bool,
 use Rattle.std.proofs.lemmas.Bool.{or_cases}
 use Rattle.std.proofs.lemmas.Bool.Decides.{nat_tests}
 use Rattle.std.proofs.lemmas.List.{append-nil}
-use Rattle.xs_json.specs.declared.fault.SceneFault.{SceneFault}
+use Rattle.xs_fault.specs.declared.fault.SceneFault.{SceneFault}
 use Rattle.xs_rawfile.specs.declared.fault.LevelCode.{LevelCode}
 use Rattle.xs_rawfile.specs.Level.{first_fault}
-use Rattle.xs_meaning.specs.Palettes.{is_listed}
-use Rattle.xs_schematic.specs.Once.{fresh}
+use Rattle.xs_base.specs.Listed.{is_listed}
+use Rattle.xs_base.specs.Once.{fresh}
 use Rattle.xs_scene.specs.Records.{SceneRecord}
-use Rattle.xs_top.specs.declared.TheConstants.{DRAWING_LIMIT}
+use Rattle.xs_base.specs.declared.limits.TheConstants.{DRAWING_LIMIT}
 use Rattle.xs_top.specs.declared.status.Status.{Status}
 use Rattle.xs_top.specs.declared.status.Status.TheVariants as answers
 use Rattle.xs_top.specs.Trace.{Outcome, ended}
-use Rattle.xs_top.specs.Told.{Files, Verdict}
-use Rattle.xs_top.specs.Levels.{file_of, kind_of, raw_kind_of, needed, pictures_of}
-use Rattle.xs_top.specs.Rows.{rows_of, sections_of}
+use Rattle.xs_top.specs.Files.{Files, Verdict}
+use Rattle.xs_top.specs.Levels.{file_of, kind_of, raw_kind_of, pictures_of}
+use Rattle.xs_meaning.specs.Expressions.{needed}
+use Rattle.xs_base.specs.Sections.{rows_of, sections_of}
 use Rattle.xs_top.specs.Finished.{Says, IsAccepted, AreAccepted}
-use Rattle.xs_top.specs.Outcome.{found, asking, checked, accepted, loading_drawing, loading, placing_rows, rendering_sections, closing, rendering_scene, rendering}
+use Rattle.xs_top.specs.Outcome.{found, asking, if_faultless, accepted, loading_drawing, loading, placing_rows, rendering_sections, closing, rendering_scene, rendering}
 use Rattle.xs_top.proofs.Listings.{TakenOnce, listed-append, fresh_listed}
 use Rattle.xs_top.proofs.Drawn.{loading_none, loading_first}
 use Rattle.xs_top.proofs.Sections.{section_is, sections_first}
@@ -80,7 +81,7 @@ sections_end once files s base (rows ∷ sections) earlier next before ends =
     (ap (λ o. o.status) (sym (sections_first files s base earlier rows sections next ∙ section_is files s base earlier rows rest)) ∙ ends) in
     rw (← append_assoc) (sections_end once files s base sections (earlier ++ rows) next (rows_accepted once files s earlier rows before first.0) (sym (placing_status files s base rows rest) ∙ first.1))
 
-checked_ends : (fault : Option SceneFault) (next : Outcome) → (checked fault next).status ≡ answers.Ok → next.status ≡ answers.Ok
+checked_ends : (fault : Option SceneFault) (next : Outcome) → (if_faultless fault next).status ≡ answers.Ok → next.status ≡ answers.Ok
 checked_ends None next ends = ends
 checked_ends (Some fault) next ends = absurd cc
 

@@ -6,7 +6,7 @@ use Rattle.xs_outside.specs.Told.{more}
 use Rattle.xs_top.specs.declared.status.Status.{Status}
 use Rattle.xs_top.specs.Trace.{Ask, Place, Line, puts, Outcome, ended, after, Contents, grown, with_asked, with_shelf, with_notes}
 use Rattle.xs_top.specs.Runs.{Did, StoppedAsking, StoppedPlacing, StoppedNoting}
-use Rattle.xs_top.specs.Told.{Files}
+use Rattle.xs_top.specs.Files.{Files}
 use Rattle.xs_top.specs.Outcome.{found, asking, placing, noting}
 use Rattle.xs_top.proofs.Parts.{more-nothing, did_nothing}
 

@@ -3,18 +3,18 @@ use Rattle.std.proofs.Common.{◌≡◌, ℕ, zero, suc, ◌+◌, ◌-◌, true,
 use Rattle.std.specs.List.{range_with_len}
 use Rattle.std.proofs.lemmas.List.{map-append, append-nil}
 use Rattle.xs_outside.specs.declared.object.Object.{Object}
-use Rattle.xs_json.specs.declared.fault.SceneFault.{SceneFault}
+use Rattle.xs_fault.specs.declared.fault.SceneFault.{SceneFault}
 use Rattle.xs_rawfile.specs.declared.fault.LevelCode.{LevelCode}
-use Rattle.xs_meaning.specs.Drawings.{Pictures}
+use Rattle.xs_pixel.specs.Picture.{Pictures}
 use Rattle.xs_scene.specs.Records.{SceneRecord}
 use Rattle.xs_top.specs.declared.status.Status.{Status}
 use Rattle.xs_top.specs.Trace.{Event, Ask, Place, Line, puts, Outcome, ended, after}
-use Rattle.xs_top.specs.Told.{Files, Verdict}
+use Rattle.xs_top.specs.Files.{Files, Verdict}
 use Rattle.xs_top.specs.Frames.{frame_at}
 use Rattle.xs_top.specs.Levels.{file_of, pictures_of}
-use Rattle.xs_top.specs.Rows.{section_rows, sections_in, rows_before}
+use Rattle.xs_base.specs.Sections.{section_rows, sections_in, rows_before}
 use Rattle.xs_top.specs.Finished.{Says, frames_of}
-use Rattle.xs_top.specs.Outcome.{found, asking, placing, noting, checked, accepted, loading_drawing, loading, placing_rows, rendering_sections, closing, rendering_scene, rendering}
+use Rattle.xs_top.specs.Outcome.{found, asking, placing, noting, if_faultless, accepted, loading_drawing, loading, placing_rows, rendering_sections, closing, rendering_scene, rendering}
 use Rattle.xs_top.proofs.Drawn.{loading_none, loading_first}
 use Rattle.xs_top.proofs.Placed.{placing_none, placing_first}
 use Rattle.xs_top.proofs.Sections.{section_is, sections_first, sections_none, sections_are, rows_before_more}
@@ -129,7 +129,7 @@ module _ (files : Files) (s : SceneRecord) (base : List ℕ) (from to : ℕ) whe
   at_scene : AtAsks (AreWhole 0) (rendering_scene files from to base s)
   at_scene = rw (sections_are from to) (at_sections (sections_in from to) 0 [] (closing (to + 1 - from)) (at_closing (to + 1 - from)))
 
-  at_checked : (fault : Option SceneFault) → AtAsks (AreWhole 0) (checked fault (rendering_scene files from to base s))
+  at_checked : (fault : Option SceneFault) → AtAsks (AreWhole 0) (if_faultless fault (rendering_scene files from to base s))
   at_checked None = at_scene
   at_checked (Some fault) = at_ended (AreWhole 0) _
 

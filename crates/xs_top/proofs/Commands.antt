@@ -9,11 +9,11 @@ use Rattle.xs_top.specs.Trace.{Contents, Outcome, puts, ended}
 use Rattle.xs_top.specs.Causes.{is_of_library, is_of_output}
 use Rattle.xs_top.specs.Runs.{Stopped}
 use Rattle.xs_top.specs.Texts.{IsStatusOf}
-use Rattle.xs_top.specs.Told.{Files, Verdict}
-use Rattle.xs_top.specs.Outcome.{found, asking, checked, decoded, noting, loading_scene, showing_scene, showing, commanding, outcome}
-use Rattle.xs_top.specs.declared.TheConstants.{SCENE_LIMIT}
-use Rattle.xs_json.specs.declared.fault.SceneFault.{SceneFault}
-use Rattle.xs_json.specs.Reading.{Reading}
+use Rattle.xs_top.specs.Files.{Files, Verdict}
+use Rattle.xs_top.specs.Outcome.{found, asking, if_faultless, decoded, noting, loading_scene, showing_scene, showing, commanding, outcome}
+use Rattle.xs_base.specs.declared.limits.TheConstants.{SCENE_LIMIT}
+use Rattle.xs_fault.specs.declared.fault.SceneFault.{SceneFault}
+use Rattle.xs_json.specs.Parsing.{Parsed}
 use Rattle.xs_scene.specs.Records.{SceneRecord}
 use Rattle.xs_scene_json.specs.SceneText.{scene_of}
 use Rattle.xs_top.proofs.Parts.{did_nothing}
@@ -34,11 +34,11 @@ words_inside words_fault.Memory status is = (ap is_of_library is, ap is_of_outpu
 -- ---- no frame is put where a scene is shown
 
 module _ (next : SceneRecord → Outcome) (none : (s : SceneRecord) → puts (next s).work ≡ []) where
-  checked_places : (found : Option SceneFault) (s : SceneRecord) → puts (checked found (next s)).work ≡ []
+  checked_places : (found : Option SceneFault) (s : SceneRecord) → puts (if_faultless found (next s)).work ≡ []
   checked_places None s = none s
   checked_places (Some fault) s = refl
 
-  decoded_places : (verdict : Verdict) (reading : Reading SceneRecord) → puts (decoded verdict reading next).work ≡ []
+  decoded_places : (verdict : Verdict) (reading : Parsed SceneRecord) → puts (decoded verdict reading next).work ≡ []
   decoded_places verdict (Err fault) = refl
   decoded_places verdict (Ok s) = checked_places (verdict s) s
 

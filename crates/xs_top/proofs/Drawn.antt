@@ -7,7 +7,7 @@ use Rattle.std.proofs.Math.ListN.{length-set}
 use Rattle.std.proofs.lemmas.List.{take_more, drop_more, drop_all, take_all, get_or-set_same, get_or-set_other}
 use Rattle.xs_pixel.specs.Channels.{Channels}
 use Rattle.xs_cm32.specs.Word.{colour_under}
-use Rattle.xs_cm32.specs.Rows.{words}
+use Rattle.xs_cm32.specs.WordRows.{words}
 use Rattle.xs_palette.specs.Styles.{style_of}
 use Rattle.xs_scene.specs.declared.level.Kind.{Kind}
 use Rattle.xs_scene.specs.declared.level.Kind.TheVariants.{Colour, Cm32}
@@ -15,22 +15,23 @@ use Rattle.xs_scene.specs.Records.{SceneRecord, LevelRecord}
 use Rattle.xs_rawfile.specs.declared.drawing.RawKind.{RawKind}
 use Rattle.xs_rawfile.specs.declared.drawing.RawKind.TheVariants as raw_kind
 use Rattle.xs_rawfile.specs.Raw.{Raw}
-use Rattle.xs_rawfile.specs.Held.{Held, held, slot_in, drawing_in, picture_of, coloured_of, content_of, Names}
+use Rattle.xs_rawfile.specs.Held.{Held, held, slot_in, drawing_in, picture_of, coloured_of, content_of, HasItsPalette}
 use Rattle.xs_check.specs.Good.{files_of, HasPalette}
-use Rattle.xs_meaning.specs.Drawings.{Pictures, level_of}
-use Rattle.xs_meaning.specs.Palettes.{is_listed}
-use Rattle.xs_top.specs.Told.{Files}
-use Rattle.xs_top.specs.Levels.{file_of, kind_by, kind_of, raw_kind_of, palette_of, palettes_of, are_bytes, pictures_of, film_of, IsFileOf, AreShown, HasRoom, Holds}
+use Rattle.xs_pixel.specs.Picture.{Pictures}
+use Rattle.xs_meaning.specs.Drawings.{level_of}
+use Rattle.xs_base.specs.Listed.{is_listed}
+use Rattle.xs_top.specs.Files.{Files}
+use Rattle.xs_top.specs.Levels.{file_of, kind_by, kind_of, raw_kind_of, palette_number, palettes_of, are_bytes, pictures_of, film_of, IsFileOf, AreShown, HasRoom, Holds}
 use Rattle.xs_rawfile.specs.declared.fault.LevelCode.TheVariants as level_code
 use Rattle.xs_rawfile.specs.Level.{first_fault}
-use Rattle.xs_top.specs.declared.TheConstants.{DRAWING_LIMIT}
+use Rattle.xs_base.specs.declared.limits.TheConstants.{DRAWING_LIMIT}
 use Rattle.xs_top.specs.declared.status.Status.TheVariants as answers
 use Rattle.xs_top.specs.Trace.{Outcome}
 use Rattle.xs_top.specs.Outcome.{asking, accepted, loading_drawing, loading}
-use Rattle.xs_schematic.specs.Once.{fresh, each_once}
+use Rattle.xs_base.specs.Once.{fresh, each_once}
 use Rattle.std.specs.List.{range_with_len}
 use Rattle.xs_meaning.specs.Expressions.{drawings_of, root_of}
-use Rattle.xs_top.specs.Levels.{needed}
+use Rattle.xs_meaning.specs.Expressions.{needed}
 use Rattle.xs_top.proofs.RowRanges.{needed_next, needed_more, range_over}
 use Rattle.xs_top.proofs.Listings.{AllKnown, TakenOnce, listed-append, fresh_listed}
 
@@ -48,7 +49,7 @@ pub kind_is : (s : SceneRecord) (d : ℕ) (kind : Kind) → option_map (λ l. l.
 unfolding kind_of
 kind_is s d kind e = kind_by_is (level_of s.levels d) kind e
 
-pub names_kind : (s : SceneRecord) (palettes : List (List Channels)) (kind : Kind) → length palettes ≡ length s.palettes → HasPalette s kind → Names palettes (raw_kind_of kind) (palette_of kind)
+pub names_kind : (s : SceneRecord) (palettes : List (List Channels)) (kind : Kind) → length palettes ≡ length s.palettes → HasPalette s kind → HasItsPalette palettes (raw_kind_of kind) (palette_number kind)
 names_kind s palettes Colour few has = tt
 names_kind s palettes (Cm32 palette) few has = omega (arith, few, has)
 
@@ -75,7 +76,7 @@ same_picture s palettes g palette shown =
     (sym (same_colours palettes (palettes_of s) g.kind g.bytes palette shown))
 
 -- the picture of a drawing whose file was read
-picture_is : (files : Files) (s : SceneRecord) (d : ℕ) (g : Raw) → IsFileOf files s d g → pictures_of files s d ≡ Some (picture_of (palettes_of s) g (palette_of (kind_of s d)))
+picture_is : (files : Files) (s : SceneRecord) (d : ℕ) (g : Raw) → IsFileOf files s d g → pictures_of files s d ≡ Some (picture_of (palettes_of s) g (palette_number (kind_of s d)))
 unfolding pictures_of
 picture_is files s d g file = rw (file.there, file.numbers, file.accepted, file.drawing) refl
 
@@ -84,11 +85,11 @@ told_film None s pictures e = absurd cc
 told_film (Some told) s pictures e = (told, refl, cc)
 
 -- a drawing that was read is its picture in the film
-pub filmed : (files : Option Files) (s : SceneRecord) (palettes : List (List Channels)) (d : ℕ) (kind : Kind) (g : Raw) (pictures : Pictures) → film_of files s ≡ Some pictures → kind_of s d ≡ kind → AreShown palettes s → ((told : Files) → files ≡ Some told → IsFileOf told s d g) → pictures d ≡ Some (picture_of palettes g (palette_of kind))
+pub filmed : (files : Option Files) (s : SceneRecord) (palettes : List (List Channels)) (d : ℕ) (kind : Kind) (g : Raw) (pictures : Pictures) → film_of files s ≡ Some pictures → kind_of s d ≡ kind → AreShown palettes s → ((told : Files) → files ≡ Some told → IsFileOf told s d g) → pictures d ≡ Some (picture_of palettes g (palette_number kind))
 filmed files s palettes d kind g pictures film is shown read =
     let told = told_film files s pictures film in
     ap (λ p. p d) (sym told.2) ∙ (picture_is told.0 s d g (read told.0 told.1)
-    ∙ ap Some (same_picture s palettes g (palette_of (kind_of s d)) shown ∙ ap (λ k. picture_of palettes g (palette_of k)) is))
+    ∙ ap Some (same_picture s palettes g (palette_number (kind_of s d)) shown ∙ ap (λ k. picture_of palettes g (palette_number k)) is))
 
 -- ---- what is held
 

@@ -6,19 +6,20 @@ use Rattle.std.proofs.lemmas.Bool.Decides.{nat_tests}
 use Rattle.std.proofs.lemmas.Grind.{flat_map-append}
 use Rattle.std.proofs.lemmas.List.{map-append, append-nil}
 use Rattle.std.proofs.lemmas.List.Folds.{flat_map-map}
-use Rattle.xs_meaning.specs.Drawings.{Pictures}
-use Rattle.xs_meaning.specs.Palettes.{is_listed}
+use Rattle.xs_pixel.specs.Picture.{Pictures}
+use Rattle.xs_base.specs.Listed.{is_listed}
 use Rattle.xs_meaning.specs.Expressions.{drawings_of, root_of}
-use Rattle.xs_schematic.specs.Once.{fresh, each_once}
+use Rattle.xs_base.specs.Once.{fresh, each_once}
 use Rattle.xs_scene.specs.Records.{SceneRecord}
 use Rattle.xs_top.specs.declared.status.Status.TheVariants as answers
 use Rattle.xs_top.specs.Trace.{Event, Ask, Place, Line, asks, puts, lines, Outcome, ended, after}
-use Rattle.xs_top.specs.Told.{Files, Verdict}
+use Rattle.xs_top.specs.Files.{Files, Verdict}
 use Rattle.xs_top.specs.Frames.{frame_at}
-use Rattle.xs_top.specs.Levels.{file_of, needed, pictures_of}
-use Rattle.xs_top.specs.Rows.{rows_of, section_rows, sections_in, sections_of, rows_before}
+use Rattle.xs_top.specs.Levels.{file_of, pictures_of}
+use Rattle.xs_meaning.specs.Expressions.{needed}
+use Rattle.xs_base.specs.Sections.{rows_of, section_rows, sections_in, sections_of, rows_before}
 use Rattle.xs_top.specs.Finished.{Says, IsAccepted, AreAccepted, frames_of}
-use Rattle.xs_top.specs.Outcome.{asking, placing, noting, decoded, checked, loading_scene, loading_drawing, loading, placing_rows, rendering_section, rendering_sections, rendered_line, closing, rendering_scene, rendering}
+use Rattle.xs_top.specs.Outcome.{asking, placing, noting, decoded, if_faultless, loading_scene, loading_drawing, loading, placing_rows, rendering_section, rendering_sections, rendered_line, closing, rendering_scene, rendering}
 use Rattle.xs_top.proofs.Parts.{asks-append, puts-append, lines-append, after-after}
 use Rattle.xs_top.proofs.Answered.{found_there}
 use Rattle.xs_top.proofs.Verdicts.{scene_asked}
@@ -198,7 +199,7 @@ module _ (s : SceneRecord) (pictures : Pictures) (base : List ℕ) where
 
 -- ---- the whole
 
-pub scene_through : (files : Files) (verdict : Verdict) (name : List ℕ) (s : SceneRecord) (next : SceneRecord → Outcome) → Says files name s → loading_scene files verdict name next ≡ after (Ask name ∷ []) (checked (verdict s) (next s))
+pub scene_through : (files : Files) (verdict : Verdict) (name : List ℕ) (s : SceneRecord) (next : SceneRecord → Outcome) → Says files name s → loading_scene files verdict name next ≡ after (Ask name ∷ []) (if_faultless (verdict s) (next s))
 unfolding asking
 scene_through files verdict name s next says =
     scene_asked files verdict name next
@@ -220,7 +221,7 @@ module _ (once : TakenOnce) (files : Files) (verdict : Verdict) (name base : Lis
   rendered =
       let all : AreAccepted files s (joined (sections_of from to)) = rw (joined_sections from to ordered) ok in
       scene_through files verdict name s (rendering_scene files from to base) says
-      ∙ (ap (λ found. after (Ask name ∷ []) (checked found (rendering_scene files from to base s))) good
+      ∙ (ap (λ found. after (Ask name ∷ []) (if_faultless found (rendering_scene files from to base s))) good
       ∙ (ap (after (Ask name ∷ [])) (sections_through once files s base (sections_of from to) [] (closing (to + 1 - from)) all ∙ after-after events (closing_events (to + 1 - from)) (ended answers.Ok))
       ∙ after-after (Ask name ∷ []) (events ++ closing_events (to + 1 - from)) (ended answers.Ok)))
 

@@ -3,23 +3,23 @@ use Rattle.std.proofs.Common.{◌≡◌, ℕ, ◌+◌, ◌-◌, ◌≤◌, Bool,
 use Rattle.std.proofs.lemmas.Bool.Decides.{nat_tests}
 use Rattle.std.proofs.lemmas.List.{map-append}
 use Rattle.xs_outside.specs.declared.object.Object.{Object}
-use Rattle.xs_json.specs.declared.fault.SceneFault.{SceneFault}
-use Rattle.xs_json.specs.declared.code.SceneCode.TheVariants as scene_code
-use Rattle.xs_json.specs.Reading.{Reading}
+use Rattle.xs_fault.specs.declared.fault.SceneFault.{SceneFault}
+use Rattle.xs_fault.specs.declared.code.SceneCode.TheVariants as scene_code
+use Rattle.xs_json.specs.Parsing.{Parsed}
 use Rattle.xs_rawfile.specs.declared.fault.LevelCode.{LevelCode}
-use Rattle.xs_meaning.specs.Drawings.{Pictures}
+use Rattle.xs_pixel.specs.Picture.{Pictures}
 use Rattle.xs_scene.specs.Records.{SceneRecord}
 use Rattle.xs_scene_json.specs.SceneText.{scene_of}
-use Rattle.xs_top.specs.declared.TheConstants.{SCENE_LIMIT}
+use Rattle.xs_base.specs.declared.limits.TheConstants.{SCENE_LIMIT}
 use Rattle.xs_top.specs.declared.status.Status.{Status}
 use Rattle.xs_top.specs.declared.status.Status.TheVariants as answers
 use Rattle.xs_top.specs.Trace.{Ask, Place, puts, Outcome, ended, after}
-use Rattle.xs_top.specs.Told.{Files, Verdict}
+use Rattle.xs_top.specs.Files.{Files, Verdict}
 use Rattle.xs_top.specs.Frames.{frame_at}
 use Rattle.xs_top.specs.Levels.{file_of, pictures_of}
-use Rattle.xs_top.specs.Rows.{rows_of, sections_of}
+use Rattle.xs_base.specs.Sections.{rows_of, sections_of}
 use Rattle.xs_top.specs.Finished.{Says, frames_of}
-use Rattle.xs_top.specs.Outcome.{no_scene, found, asking, placing, noting, checked, decoded, accepted, loading_scene, loading_drawing, loading, placing_rows, rendering_sections, closing, rendering_scene, rendering}
+use Rattle.xs_top.specs.Outcome.{no_scene, found, asking, placing, noting, if_faultless, decoded, accepted, loading_scene, loading_drawing, loading, placing_rows, rendering_sections, closing, rendering_scene, rendering}
 use Rattle.xs_top.proofs.Answered.{found_absent, found_there, found_too_long}
 use Rattle.xs_top.proofs.Verdicts.{scene_asked}
 use Rattle.xs_top.proofs.Drawn.{loading_none, loading_first}
@@ -85,7 +85,7 @@ front_closing : (rows : ℕ) → IsFront [] (closing rows)
 unfolding closing noting
 front_closing rows = record { rest = []; split = refl }
 
-front_checked : (whole : List Object) (fault : Option SceneFault) (next : Outcome) → IsFront whole next → IsFront whole (checked fault next)
+front_checked : (whole : List Object) (fault : Option SceneFault) (next : Outcome) → IsFront whole next → IsFront whole (if_faultless fault next)
 front_checked whole None next f = f
 front_checked whole (Some fault) next f = front_ended whole _
 
@@ -112,7 +112,7 @@ module _ (files : Files) (verdict : Verdict) (name : List ℕ) (next : SceneReco
   abbrev load : List ℕ → Outcome
   load bytes = decoded verdict (scene_of bytes) next
 
-  read_or_not : (bytes : List ℕ) → files name ≡ Some bytes → length bytes ≤ SCENE_LIMIT → (reading : Reading SceneRecord) → scene_of bytes ≡ reading → SaysOrNot
+  read_or_not : (bytes : List ℕ) → files name ≡ Some bytes → length bytes ≤ SCENE_LIMIT → (reading : Parsed SceneRecord) → scene_of bytes ≡ reading → SaysOrNot
   unfolding asking
   read_or_not bytes there short (Ok s) e = inl (s, record { bytes = bytes; there = there; short = short; text = e })
   read_or_not bytes there short (Err fault) e = inr (record {

@@ -2,8 +2,8 @@
 use Rattle.std.proofs.Common.{◌≡◌, ℕ, Bool, true, false, cond, ◌||◌, List, [], ◌∷◌, ◌++◌, refl, sym, ◌∙◌}
 use Rattle.std.proofs.lemmas.List.{append_cancel_left}
 use Rattle.std.proofs.lemmas.List.Folds.{list_any-append}
-use Rattle.xs_meaning.specs.Palettes.{is_listed}
-use Rattle.xs_schematic.specs.Once.{fresh}
+use Rattle.xs_base.specs.Listed.{is_listed}
+use Rattle.xs_base.specs.Once.{fresh}
 
 pub listed-append : (a b : List ℕ) (d : ℕ) → is_listed (a ++ b) d ≡ (is_listed a d || is_listed b d)
 listed-append a b d = list_any-append _ a b

@@ -1,6 +1,6 @@
 -- Each verdict over a library gives the same outcome.
 use Rattle.std.proofs.Common.{◌≡◌, ℕ, List, [], ◌∷◌, Option, Some, None, Result, Ok, Err, length, nat_le, if◌then◌else◌, refl, ap}
-use Rattle.xs_json.specs.declared.fault.SceneFault.{SceneFault}
+use Rattle.xs_fault.specs.declared.fault.SceneFault.{SceneFault}
 use Rattle.xs_scene.specs.Records.{SceneRecord}
 use Rattle.xs_scene_json.specs.SceneText.{scene_of}
 use Rattle.xs_check.specs.Passes.{Checking}
@@ -10,8 +10,8 @@ use Rattle.xs_words.specs.declared.fault.Usage.{Usage}
 use Rattle.xs_words.specs.Grammar.{reading_of}
 use Rattle.xs_top.specs.declared.status.Status.{Status}
 use Rattle.xs_top.specs.Trace.{Ask, Outcome, ended, after}
-use Rattle.xs_top.specs.Told.{Files, Verdict, IsVerdict}
-use Rattle.xs_top.specs.Outcome.{found, asking, checked, decoded, loading_scene, rendering_scene, rendering, showing_scene, showing, commanding, obeying, outcome}
+use Rattle.xs_top.specs.Files.{Files, Verdict, IsVerdict}
+use Rattle.xs_top.specs.Outcome.{found, asking, if_faultless, decoded, loading_scene, rendering_scene, rendering, showing_scene, showing, commanding, obeying, outcome}
 
 -- checking finds one thing in a scene
 abbrev pub OneFinding : Type 0
@@ -24,7 +24,7 @@ found_same (Some bytes) limit absent too_long next other same =
 
 decoded_same : (verdict other : Verdict) (reading : Result SceneRecord SceneFault) (next : SceneRecord → Outcome) → ((s : SceneRecord) → reading ≡ Ok s → verdict s ≡ other s) → decoded verdict reading next ≡ decoded other reading next
 decoded_same verdict other (Err fault) next same = refl
-decoded_same verdict other (Ok s) next same = ap (λ found. checked found (next s)) (same s refl)
+decoded_same verdict other (Ok s) next same = ap (λ found. if_faultless found (next s)) (same s refl)
 
 module _ (one : OneFinding) (files : Files) (verdict other : Verdict) (right : IsVerdict files verdict) (also : IsVerdict files other) where
   loading_same : (name : List ℕ) (next : SceneRecord → Outcome) → loading_scene files verdict name next ≡ loading_scene files other name next

@@ -5,11 +5,11 @@ use Rattle.std.specs.List.{range_with_len}
 use Rattle.xs_direct.specs.Pictures.{AreHeld}
 use Rattle.xs_rawfile.specs.Held.{Held, slot_in}
 use Rattle.xs_scene.specs.Records.{SceneRecord}
-use Rattle.xs_meaning.specs.Drawings.{Pictures}
+use Rattle.xs_pixel.specs.Picture.{Pictures}
 use Rattle.xs_meaning.specs.Expressions.{drawings_of, root_of}
 use Rattle.xs_top.specs.Trace.{Outcome}
 use Rattle.xs_top.specs.Frames.{frame_at}
-use Rattle.xs_top.specs.Levels.{needed}
+use Rattle.xs_meaning.specs.Expressions.{needed}
 use Rattle.xs_top.specs.Outcome.{placing, placing_rows}
 use Rattle.xs_top.proofs.RowRanges.{range_next, range_over}
 

@@ -4,7 +4,7 @@ use Rattle.std.proofs.Math.Seq.{take-nil}
 use Rattle.std.proofs.lemmas.List.{take-append-drop}
 use Rattle.xs_outside.specs.Told.{more}
 use Rattle.xs_outside.specs.declared.object.Object.{Object}
-use Rattle.xs_json.specs.declared.fault.SceneFault.{SceneFault}
+use Rattle.xs_fault.specs.declared.fault.SceneFault.{SceneFault}
 use Rattle.xs_scene.specs.Records.{SceneRecord}
 use Rattle.xs_check.specs.Passes.{Checking}
 use Rattle.xs_words.specs.declared.command.Command.TheVariants as command
@@ -13,10 +13,10 @@ use Rattle.xs_top.specs.declared.status.Status.{Status}
 use Rattle.xs_top.specs.declared.status.Status.TheVariants as answers
 use Rattle.xs_top.specs.Trace.{puts, Outcome, Contents, grown}
 use Rattle.xs_top.specs.Runs.{GainedFront, is_broken, IsRun}
-use Rattle.xs_top.specs.Told.{Files, Verdict}
-use Rattle.xs_top.specs.Rows.{rows_of}
+use Rattle.xs_top.specs.Files.{Files, Verdict}
+use Rattle.xs_base.specs.Sections.{rows_of}
 use Rattle.xs_top.specs.Finished.{Says, frames_of}
-use Rattle.xs_top.specs.Outcome.{checked, rendering_scene, rendering, commanding, outcome}
+use Rattle.xs_top.specs.Outcome.{if_faultless, rendering_scene, rendering, commanding, outcome}
 use Rattle.xs_top.specs.Rendered.{IsRendered, GainedFrames}
 use Rattle.xs_top.proofs.Parts.{more-nothing}
 use Rattle.xs_top.proofs.Wholes.{front}
@@ -26,7 +26,7 @@ use Rattle.xs_top.proofs.Finishing.{scene_through, rendered_asks, rendered_puts,
 use Rattle.xs_top.proofs.Accepting.{rendered_accepted}
 use Rattle.xs_top.proofs.Fronts.{says_or_not, front_rendering}
 
-checked_good : (fault : Option SceneFault) (next : Outcome) → (checked fault next).status ≡ answers.Ok → fault ≡ None
+checked_good : (fault : Option SceneFault) (next : Outcome) → (if_faultless fault next).status ≡ answers.Ok → fault ≡ None
 checked_good None next e = refl
 checked_good (Some fault) next e = absurd cc
 

@@ -5,7 +5,7 @@ use Rattle.std.proofs.lemmas.Grind.{flat_map-append}
 use Rattle.std.proofs.lemmas.List.{append-nil}
 use Rattle.xs_meaning.specs.Expressions.{drawings_of, root_of}
 use Rattle.xs_scene.specs.Records.{SceneRecord}
-use Rattle.xs_top.specs.Levels.{needed}
+use Rattle.xs_meaning.specs.Expressions.{needed}
 
 pub range_next : (first rows : ℕ) (i : ℕ) → i < rows → range_with_len (first + i) (rows - i) ≡ (first + i) ∷ range_with_len (first + (i + 1)) (rows - (i + 1))
 range_next first rows i within =

@@ -9,9 +9,9 @@ use Rattle.std.proofs.lemmas.List.{append-nil, length-replicate}
 use Rattle.std.proofs.lemmas.List.Folds.{list_any_at}
 use Rattle.std.proofs.lemmas.Grind.{flat_map-append}
 use Rattle.xs_direct.specs.Pictures.{AreHeld}
-use Rattle.xs_meaning.specs.Drawings.{ArePixels, HoldsPixels}
-use Rattle.xs_meaning.specs.Palettes.{is_listed}
-use Rattle.xs_schematic.specs.Once.{fresh}
+use Rattle.xs_pixel.specs.Picture.{ArePixels, HoldsPixels}
+use Rattle.xs_base.specs.Listed.{is_listed}
+use Rattle.xs_base.specs.Once.{fresh}
 use Rattle.xs_pixel.specs.Channels.{Channels}
 use Rattle.xs_rawfile.specs.declared.drawing.RawKind.{RawKind}
 use Rattle.xs_rawfile.specs.Held.{Held, held, content_of}
@@ -22,9 +22,10 @@ use Rattle.xs_scene.specs.declared.level.Kind.{Kind}
 use Rattle.xs_scene.specs.Records.{SceneRecord}
 use Rattle.xs_check.specs.Good.{files_of}
 use Rattle.xs_top.specs.Trace.{Outcome}
-use Rattle.xs_top.specs.Told.{Files}
-use Rattle.xs_top.specs.Levels.{file_of, kind_of, raw_kind_of, needed, are_bytes, palettes_of, picture_in, pictures_of, AreShown, HasRoom, Holds}
-use Rattle.xs_top.specs.Rows.{section_rows, sections_in, sections_of, rows_before}
+use Rattle.xs_top.specs.Files.{Files}
+use Rattle.xs_top.specs.Levels.{file_of, kind_of, raw_kind_of, are_bytes, palettes_of, picture_in, pictures_of, AreShown, HasRoom, Holds}
+use Rattle.xs_meaning.specs.Expressions.{needed}
+use Rattle.xs_base.specs.Sections.{section_rows, sections_in, sections_of, rows_before}
 use Rattle.xs_top.specs.Outcome.{loading, placing_rows, rendering_section, rendering_sections}
 use Rattle.xs_top.proofs.Listings.{listed-append}
 use Rattle.xs_top.proofs.RowRanges.{range_next, range_over, range-append}

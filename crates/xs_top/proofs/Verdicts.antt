@@ -1,31 +1,31 @@
 -- What reading and checking a scene leaves to do.
 use Rattle.std.proofs.Common.{◌≡◌, List, ℕ, Bool, true, false, Option, Some, None, Ok, Err, refl, ap, inl, inr}
-use Rattle.xs_json.specs.declared.fault.SceneFault.{SceneFault}
-use Rattle.xs_json.specs.declared.fault.FieldFault.{FieldFault}
-use Rattle.xs_json.specs.declared.fault.FieldFault.TheVariants as field
-use Rattle.xs_json.specs.Reading.{Reading}
+use Rattle.xs_fault.specs.declared.fault.SceneFault.{SceneFault}
+use Rattle.xs_fault.specs.declared.fault.FieldFault.{FieldFault}
+use Rattle.xs_fault.specs.declared.fault.FieldFault.TheVariants as field
+use Rattle.xs_json.specs.Parsing.{Parsed}
 use Rattle.xs_scene.specs.Records.{SceneRecord}
 use Rattle.xs_scene_json.specs.Faults.{is_text_code}
 use Rattle.xs_scene_json.specs.SceneText.{scene_of}
 use Rattle.xs_check.specs.Passes.{Checking}
-use Rattle.xs_json.specs.declared.code.SceneCode.{SceneCode}
-use Rattle.xs_json.specs.declared.code.SceneCode.TheVariants as scene_code
-use Rattle.xs_top.specs.declared.TheConstants.{SCENE_LIMIT}
+use Rattle.xs_fault.specs.declared.code.SceneCode.{SceneCode}
+use Rattle.xs_fault.specs.declared.code.SceneCode.TheVariants as scene_code
+use Rattle.xs_base.specs.declared.limits.TheConstants.{SCENE_LIMIT}
 use Rattle.xs_top.specs.Trace.{Outcome, ended, Contents}
 use Rattle.xs_top.specs.Runs.{Stopped}
 use Rattle.xs_top.specs.Scenes.{ReadsScene}
 use Rattle.xs_top.specs.Causes.{is_lost_scene, is_of_library}
 use Rattle.xs_top.specs.Texts.{scene_status}
-use Rattle.xs_top.specs.Told.{Files, Verdict}
-use Rattle.xs_top.specs.Outcome.{no_scene, asking, checked, decoded, loading_scene}
+use Rattle.xs_top.specs.Files.{Files, Verdict}
+use Rattle.xs_top.specs.Outcome.{no_scene, asking, if_faultless, decoded, loading_scene}
 use Rattle.xs_check.specs.Codes.{is_of_checking}
 use Rattle.xs_top.proofs.OneOutcome.{OneFinding}
 use Rattle.xs_top.proofs.Parts.{did_nothing}
 
-module _ (one : OneFinding) (verdict : Verdict) (reading : Reading SceneRecord) (next : SceneRecord → Outcome) (right : (s : SceneRecord) → reading ≡ Ok s → Checking s (verdict s)) where
-  decoded_as : (s : SceneRecord) (found : Option SceneFault) → reading ≡ Ok s → Checking s found → decoded verdict reading next ≡ checked found (next s)
+module _ (one : OneFinding) (verdict : Verdict) (reading : Parsed SceneRecord) (next : SceneRecord → Outcome) (right : (s : SceneRecord) → reading ≡ Ok s → Checking s (verdict s)) where
+  decoded_as : (s : SceneRecord) (found : Option SceneFault) → reading ≡ Ok s → Checking s found → decoded verdict reading next ≡ if_faultless found (next s)
   decoded_as s found e checks =
-      rw e (ap (λ f. checked f (next s)) (one s _ _ (right s e) checks))
+      rw e (ap (λ f. if_faultless f (next s)) (one s _ _ (right s e) checks))
 
   pub scene_read : (s : SceneRecord) → reading ≡ Ok s → Checking s None → decoded verdict reading next ≡ next s
   scene_read s e checks = decoded_as s None e checks

@@ -1,6 +1,6 @@
 use Rattle.std.specs.Prelude.{Bool, true, false, Result, Ok, Err}
-use Rattle.xs_json.specs.declared.code.SceneCode.{SceneCode}
-use Rattle.xs_json.specs.declared.code.SceneCode.TheVariants as scene
+use Rattle.xs_fault.specs.declared.code.SceneCode.{SceneCode}
+use Rattle.xs_fault.specs.declared.code.SceneCode.TheVariants as scene
 use Rattle.xs_rawfile.specs.declared.fault.LevelCode.{LevelCode}
 use Rattle.xs_rawfile.specs.declared.fault.LevelCode.TheVariants as level
 use Rattle.xs_top.specs.declared.status.Status.{Status}

@@ -3,11 +3,12 @@ use Rattle.xs_outside.specs.declared.object.Object.{Object}
 use Rattle.xs_rawfile.specs.Level.{first_fault}
 use Rattle.xs_scene.specs.Records.{SceneRecord}
 use Rattle.xs_scene_json.specs.SceneText.{scene_of}
-use Rattle.xs_meaning.specs.Palettes.{is_listed}
-use Rattle.xs_top.specs.declared.TheConstants.{SCENE_LIMIT, DRAWING_LIMIT}
-use Rattle.xs_top.specs.Told.{Files}
+use Rattle.xs_base.specs.Listed.{is_listed}
+use Rattle.xs_base.specs.declared.limits.TheConstants.{SCENE_LIMIT, DRAWING_LIMIT}
+use Rattle.xs_top.specs.Files.{Files}
 use Rattle.xs_top.specs.Frames.{frame_at}
-use Rattle.xs_top.specs.Levels.{file_of, kind_of, raw_kind_of, needed, pictures_of}
+use Rattle.xs_top.specs.Levels.{file_of, kind_of, raw_kind_of, pictures_of}
+use Rattle.xs_meaning.specs.Expressions.{needed}
 
 -- a file of a library says this scene
 pub record Says (files : Files) (name : List ℕ) (s : SceneRecord) : Type 0 where

@@ -1,7 +1,7 @@
 use Rattle.std.specs.Prelude.{ℕ, ◌/◌, ◌%◌, List, ◌++◌, codes, decimal}
 use Rattle.xs_outside.specs.declared.object.Object.{Object}
 use Rattle.xs_scene.specs.Records.{SceneRecord}
-use Rattle.xs_meaning.specs.Drawings.{Pictures}
+use Rattle.xs_pixel.specs.Picture.{Pictures}
 use Rattle.xs_direct.specs.Frames.{frame_file}
 
 -- the name of the frame of a row, which is told in four digits

@@ -3,7 +3,7 @@ use Rattle.xs_outside.specs.Told.{Rose}
 use Rattle.xs_top.specs.declared.status.Status.{Status}
 use Rattle.xs_top.specs.declared.status.Status.TheVariants as answers
 use Rattle.xs_top.specs.Causes.{is_lost, is_of_library, is_of_output}
-use Rattle.xs_top.specs.Told.{Files}
+use Rattle.xs_top.specs.Files.{Files}
 
 -- what is left of a library where this is the answer: its files are the same; the count of its faults has not
 -- fallen, rose where the answer is a fault of reading or, in a library that tells no files, that one is not

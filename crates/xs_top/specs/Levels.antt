@@ -12,10 +12,11 @@ use Rattle.xs_scene.specs.declared.level.Kind.{Kind}
 use Rattle.xs_scene.specs.declared.level.Kind.TheVariants.{Colour, Cm32}
 use Rattle.xs_scene.specs.Records.{SceneRecord, LevelRecord}
 use Rattle.xs_check.specs.Good.{files_of}
-use Rattle.xs_meaning.specs.Drawings.{Pictures, level_of}
+use Rattle.xs_pixel.specs.Picture.{Pictures}
+use Rattle.xs_meaning.specs.Drawings.{level_of}
 use Rattle.xs_meaning.specs.Expressions.{drawings_of, root_of}
-use Rattle.xs_meaning.specs.Palettes.{is_listed}
-use Rattle.xs_top.specs.Told.{Files}
+use Rattle.xs_base.specs.Listed.{is_listed}
+use Rattle.xs_top.specs.Files.{Files}
 
 -- ---- the drawings of a scene
 
@@ -37,13 +38,9 @@ raw_kind_of Colour = raw_kind.Colour
 raw_kind_of (Cm32 palette) = raw_kind.Cm32
 
 -- the number of the palette of such a level
-abbrev pub palette_of : Kind → Option ℕ
-palette_of Colour = None
-palette_of (Cm32 palette) = Some palette
-
--- the drawings that the expressions of rows have, as a walk over them meets them
-abbrev pub needed : SceneRecord → List ℕ → List ℕ
-needed s rows = flat_map (λ row. drawings_of (root_of s row)) rows
+abbrev pub palette_number : Kind → Option ℕ
+palette_number Colour = None
+palette_number (Cm32 palette) = Some palette
 
 -- ---- their pictures
 
@@ -59,7 +56,7 @@ are_bytes numbers = list_all (λ number. nat_lt number 256) numbers
 abbrev pub picture_in : List (List Channels) → Kind → List ℕ → Option Picture
 picture_in palettes kind bytes =
     if are_bytes bytes && is_none (first_fault (raw_kind_of kind) bytes)
-    then Some (picture_of palettes (raw_of (raw_kind_of kind) bytes) (palette_of kind))
+    then Some (picture_of palettes (raw_of (raw_kind_of kind) bytes) (palette_number kind))
     else None
 
 -- the pictures of a scene's drawings: those whose files are there and have no fault

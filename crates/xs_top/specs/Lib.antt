@@ -1,10 +1,9 @@
 pub mod Trace
-pub mod Told
+pub mod Files
 pub mod Runs
 pub mod Texts
 pub mod Frames
 pub mod Levels
-pub mod Rows
 pub mod Scenes
 pub mod Outcome
 pub mod Causes

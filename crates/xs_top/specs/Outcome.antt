@@ -1,29 +1,30 @@
 use Rattle.std.specs.Prelude.{ℕ, ◌+◌, ◌-◌, List, [], ◌∷◌, ◌++◌, length, nat_le, if◌then◌else◌, codes, decimal, Option, None, Some, Result, Ok, Err}
 use Rattle.serde_json.specs.Written.{compact_text}
 use Rattle.xs_outside.specs.declared.object.Object.{Object}
-use Rattle.xs_json.specs.declared.code.SceneCode.{SceneCode}
-use Rattle.xs_json.specs.declared.code.SceneCode.TheVariants as scene_code
-use Rattle.xs_json.specs.declared.fault.SceneFault.{SceneFault}
+use Rattle.xs_fault.specs.declared.code.SceneCode.{SceneCode}
+use Rattle.xs_fault.specs.declared.code.SceneCode.TheVariants as scene_code
+use Rattle.xs_fault.specs.declared.fault.SceneFault.{SceneFault}
 use Rattle.xs_scene.specs.Records.{SceneRecord}
 use Rattle.xs_scene_json.specs.SceneData.{scene_data}
 use Rattle.xs_scene_json.specs.SceneText.{scene_of}
 use Rattle.xs_rawfile.specs.declared.fault.LevelCode.{LevelCode}
 use Rattle.xs_rawfile.specs.declared.fault.LevelCode.TheVariants as level_code
 use Rattle.xs_rawfile.specs.Level.{first_fault}
-use Rattle.xs_meaning.specs.Drawings.{Pictures}
-use Rattle.xs_schematic.specs.Once.{fresh}
+use Rattle.xs_pixel.specs.Picture.{Pictures}
+use Rattle.xs_base.specs.Once.{fresh}
 use Rattle.xs_words.specs.declared.command.Command.{Command}
 use Rattle.xs_words.specs.declared.command.Command.TheVariants as command
 use Rattle.xs_words.specs.declared.fault.Usage.{Usage}
 use Rattle.xs_words.specs.Grammar.{reading_of}
 use Rattle.xs_top.specs.declared.status.Status.{Status}
 use Rattle.xs_top.specs.declared.status.Status.TheVariants as answers
-use Rattle.xs_top.specs.declared.TheConstants.{SCENE_LIMIT, DRAWING_LIMIT}
+use Rattle.xs_base.specs.declared.limits.TheConstants.{SCENE_LIMIT, DRAWING_LIMIT}
 use Rattle.xs_top.specs.Trace.{Ask, Place, Line, Outcome, ended, after}
-use Rattle.xs_top.specs.Told.{Files, Verdict}
+use Rattle.xs_top.specs.Files.{Files, Verdict}
 use Rattle.xs_top.specs.Frames.{frame_at}
-use Rattle.xs_top.specs.Levels.{file_of, kind_of, raw_kind_of, needed, pictures_of}
-use Rattle.xs_top.specs.Rows.{sections_of}
+use Rattle.xs_top.specs.Levels.{file_of, kind_of, raw_kind_of, pictures_of}
+use Rattle.xs_meaning.specs.Expressions.{needed}
+use Rattle.xs_base.specs.Sections.{sections_of}
 
 -- ---- the steps of a run, each with what follows it
 
@@ -54,14 +55,14 @@ abbrev pub no_scene : SceneCode → Status
 no_scene code = answers.Scene (record { code = code; path = [] })
 
 -- what checking finds
-abbrev pub checked : Option SceneFault → Outcome → Outcome
-checked (Some fault) next = ended (answers.Scene fault)
-checked None next = next
+abbrev pub if_faultless : Option SceneFault → Outcome → Outcome
+if_faultless (Some fault) next = ended (answers.Scene fault)
+if_faultless None next = next
 
 -- what the text of a scene says, and what checking finds in it
 abbrev pub decoded : Verdict → Result SceneRecord SceneFault → (SceneRecord → Outcome) → Outcome
 decoded verdict (Err fault) next = ended (answers.Scene fault)
-decoded verdict (Ok s) next = checked (verdict s) (next s)
+decoded verdict (Ok s) next = if_faultless (verdict s) (next s)
 
 -- the scene is loaded
 unfoldable pub loading_scene : Files → Verdict → List ℕ → (SceneRecord → Outcome) → Outcome

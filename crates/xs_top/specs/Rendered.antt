@@ -3,11 +3,12 @@ use Rattle.xs_outside.specs.declared.object.Object.{Object}
 use Rattle.xs_outside.specs.Told.{more}
 use Rattle.xs_scene.specs.Records.{SceneRecord}
 use Rattle.xs_check.specs.Passes.{Checking}
-use Rattle.xs_schematic.specs.Once.{each_once}
+use Rattle.xs_base.specs.Once.{each_once}
 use Rattle.xs_top.specs.Trace.{Contents}
-use Rattle.xs_top.specs.Told.{Files}
-use Rattle.xs_top.specs.Levels.{file_of, needed}
-use Rattle.xs_top.specs.Rows.{rows_of}
+use Rattle.xs_top.specs.Files.{Files}
+use Rattle.xs_top.specs.Levels.{file_of}
+use Rattle.xs_meaning.specs.Expressions.{needed}
+use Rattle.xs_base.specs.Sections.{rows_of}
 use Rattle.xs_top.specs.Finished.{Says, AreAccepted, frames_of}
 use Rattle.xs_top.specs.Outcome.{rendered_line}
 

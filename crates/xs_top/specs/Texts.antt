@@ -1,9 +1,9 @@
 use Rattle.std.specs.Prelude.{◌≡◌, ℕ, List, [], ◌∷◌, ◌++◌, codes, decimal}
-use Rattle.xs_json.specs.Codes.{code_number, code_name}
-use Rattle.xs_json.specs.declared.fault.SceneFault.{SceneFault}
-use Rattle.xs_json.specs.declared.fault.FieldFault.{FieldFault}
-use Rattle.xs_json.specs.declared.fault.FieldFault.TheVariants as field
-use Rattle.xs_rawfile.specs.Codes.{number_of as level_number}
+use Rattle.xs_fault.specs.Codes.{code_number, code_name}
+use Rattle.xs_fault.specs.declared.fault.SceneFault.{SceneFault}
+use Rattle.xs_fault.specs.declared.fault.FieldFault.{FieldFault}
+use Rattle.xs_fault.specs.declared.fault.FieldFault.TheVariants as field
+use Rattle.xs_rawfile.specs.Codes.{level_code_number as level_number}
 use Rattle.xs_rawfile.specs.declared.fault.LevelCode.{LevelCode}
 use Rattle.xs_rawfile.specs.declared.fault.LevelCode.TheVariants as level
 use Rattle.xs_words.specs.declared.fault.Usage.{Usage}
@@ -14,15 +14,15 @@ use Rattle.xs_top.specs.declared.status.Status.{Status}
 use Rattle.xs_top.specs.declared.status.Status.TheVariants as answers
 
 -- the number with which the program ends
-abbrev pub number_of : Status → ℕ
-number_of answers.Ok = 0
-number_of (answers.Usage usage) = 1
-number_of (answers.Scene fault) = 2
-number_of (answers.Level drawing code) = 3
-number_of answers.ReadFault = 4
-number_of answers.WriteFault = 5
-number_of answers.Memory = 6
-number_of answers.NotYet = 8
+abbrev pub status_number : Status → ℕ
+status_number answers.Ok = 0
+status_number (answers.Usage usage) = 1
+status_number (answers.Scene fault) = 2
+status_number (answers.Level drawing code) = 3
+status_number answers.ReadFault = 4
+status_number answers.WriteFault = 5
+status_number answers.Memory = 6
+status_number answers.NotYet = 8
 
 abbrev about_word : List ℕ → ℕ → List ℕ → List ℕ
 about_word before word behind = (before ++ decimal word) ++ behind

@@ -1,4 +1,5 @@
 ghost use Rattle.std.specs.Prelude.{◌≡◌, ◌≤◌, ◌⊎◌, ℕ, List, Some, Ok, IfOk, IsErrOf, map, string_bytes, false};
+ghost use Rattle.xs_base.specs.declared.limits.TheConstants.{LAST_ROW};
 ghost use Rattle.serde_json.specs.Written.{compact_text};
 ghost use Rattle.xs_outside.specs.Told.{Rose, more};
 ghost use Rattle.xs_scene_json.specs.SceneData.{scene_data};
@@ -8,7 +9,7 @@ ghost use Rattle.xs_top.specs.Causes.{answer_of, is_of_library, is_of_output};
 ghost use Rattle.xs_top.specs.Trace.{Contents, puts, ended, with_asked, with_notes};
 ghost use Rattle.xs_top.specs.Leaves.{LeavesLibrary, LeavesOutput, LeavesOutputs};
 ghost use Rattle.xs_top.specs.Runs.{Runs, IsRun};
-ghost use Rattle.xs_top.specs.Told.{Files, Verdict, IsVerdict};
+ghost use Rattle.xs_top.specs.Files.{Files, Verdict, IsVerdict};
 ghost use Rattle.xs_top.specs.Rendered.{IsRendered, GainedFrames};
 ghost use Rattle.xs_top.specs.Outcome.{rendered_line, closing, rendering, showing, commanding, outcome};
 
@@ -18,13 +19,13 @@ use crate::status::{Status, status_of};
 use crate::steps::note;
 use std::alloc::Global;
 use std::marker::Brand;
+use xs_base::Memory;
+use xs_base::laws::each_number_is_taken_once;
 use xs_check::GoodScene;
 use xs_check::laws::checking_finds_one_thing;
 use xs_outside::{Library, Notes, Shelf};
-use xs_pixel::Memory;
 use xs_scene::Name;
 use xs_scene_json::encode;
-use xs_schematic::laws::each_number_is_taken_once;
 use xs_words::{Command, read_words};
 
 /// The line at the end of so many rows.
@@ -58,7 +59,7 @@ fn render<L: Library, S: Shelf, T: Notes>(
     notes: &mut T,
 ) -> Result<(), Status>
     requires range { from ≤ to }
-    requires last { to ≤ 9999 }
+    requires last { to ≤ LAST_ROW }
     ensures told { (files : Files) → L.files lib.old ≡ Some files → (verdict : Verdict) → IsVerdict files verdict
         → Runs (rendering files verdict scene.now from to base.now) (λ _. ended Status.Ok)
         (record { asked = L.asked lib.old; shelf = S.objects shelf.old; notes = T.written notes.old })

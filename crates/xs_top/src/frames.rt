@@ -1,23 +1,24 @@
 ghost use Rattle.std.specs.Prelude.{◌≡◌, ◌<◌, ◌+◌, ◌^◌, Some, IfOk, string_bytes, false};
 ghost use Rattle.std.specs.List.{range_with_len};
 ghost use Rattle.xs_direct.specs.Pictures.{AreHeld};
-ghost use Rattle.xs_meaning.specs.Drawings.{Pictures, ArePixels};
+ghost use Rattle.xs_pixel.specs.Picture.{Pictures, ArePixels};
 ghost use Rattle.xs_meaning.specs.Expressions.{drawings_of, root_of};
 ghost use Rattle.xs_top.specs.Causes.{answer_of, is_of_library};
 ghost use Rattle.xs_top.specs.Trace.{Outcome, Contents, with_shelf};
 ghost use Rattle.xs_top.specs.Leaves.{LeavesOutput};
 ghost use Rattle.xs_top.specs.Runs.{Runs};
 ghost use Rattle.xs_top.specs.Frames.{frame_name_of, frame_at};
-ghost use Rattle.xs_top.specs.Levels.{needed};
+ghost use Rattle.xs_meaning.specs.Expressions.{needed};
 ghost use Rattle.xs_top.specs.Outcome.{placing, placing_rows};
 
 use crate::status::Status;
 use crate::steps::place;
 use std::alloc::Global;
+use xs_base::Memory;
 use xs_check::GoodScene;
 use xs_direct::frame_direct;
 use xs_outside::Shelf;
-use xs_pixel::{Film, Memory};
+use xs_pixel::Film;
 use xs_rawfile::Drawings;
 use xs_scene::Name;
 

@@ -1,18 +1,19 @@
 //! Laws of the outcome, in the words of its subject.
 ghost use Rattle.std.specs.Prelude.{◌≡◌, ◌≤◌, ◌+◌, ◌*◌, ◌-◌, ◌++◌, ◌∷◌, [], ℕ, List, None, map};
-ghost use Rattle.xs_schematic.specs.Once.{each_once};
+ghost use Rattle.xs_base.specs.Once.{each_once};
 ghost use Rattle.xs_scene.specs.Records.{SceneRecord};
-ghost use Rattle.xs_top.specs.declared.TheConstants.{SCENE_LIMIT, DRAWING_LIMIT};
+ghost use Rattle.xs_base.specs.declared.limits.TheConstants.{SCENE_LIMIT, DRAWING_LIMIT};
 ghost use Rattle.xs_top.specs.declared.status.Status.TheVariants as answers;
 ghost use Rattle.xs_top.specs.Trace.{Event, Ask, asks, puts, lines};
-ghost use Rattle.xs_top.specs.Told.{Files, Verdict, IsVerdict};
-ghost use Rattle.xs_top.specs.Levels.{file_of, needed};
-ghost use Rattle.xs_top.specs.Rows.{rows_of, rows_before};
+ghost use Rattle.xs_top.specs.Files.{Files, Verdict, IsVerdict};
+ghost use Rattle.xs_top.specs.Levels.{file_of};
+ghost use Rattle.xs_meaning.specs.Expressions.{needed};
+ghost use Rattle.xs_base.specs.Sections.{rows_of, rows_before};
 ghost use Rattle.xs_top.specs.Finished.{Says, AreAccepted, frames_of};
 ghost use Rattle.xs_top.specs.Outcome.{rendered_line, rendering, outcome};
 
+use xs_base::laws::each_number_is_taken_once;
 use xs_check::laws::checking_finds_one_thing;
-use xs_schematic::laws::each_number_is_taken_once;
 
 /// A scene file may have 16 MiB, and the file of a drawing what the largest drawing has.
 pub fn files_have_their_limits()

@@ -2,27 +2,28 @@ ghost use Rattle.std.specs.Prelude.{◌≡◌, ◌<◌, ◌+◌, ◌^◌, ℕ, L
 ghost use Rattle.std.specs.List.{range_with_len};
 ghost use Rattle.xs_check.specs.Good.{files_of};
 ghost use Rattle.xs_meaning.specs.Expressions.{drawings_of, root_of};
-ghost use Rattle.xs_schematic.specs.Once.{fresh};
+ghost use Rattle.xs_base.specs.Once.{fresh};
 ghost use Rattle.xs_rawfile.specs.Level.{first_fault, raw_of};
 ghost use Rattle.xs_top.specs.Causes.{answer_of, is_of_library, is_of_output};
 ghost use Rattle.xs_top.specs.Trace.{Outcome, Contents, with_asked};
 ghost use Rattle.xs_top.specs.Leaves.{LeavesLibrary};
 ghost use Rattle.xs_top.specs.Runs.{Runs};
-ghost use Rattle.xs_top.specs.Told.{Files};
-ghost use Rattle.xs_top.specs.Levels.{kind_of, raw_kind_of, palette_of, IsFileOf, needed, are_bytes, film_of, HasRoom, Holds};
+ghost use Rattle.xs_top.specs.Files.{Files};
+ghost use Rattle.xs_top.specs.Levels.{kind_of, raw_kind_of, palette_number, IsFileOf, are_bytes, film_of, HasRoom, Holds};
+ghost use Rattle.xs_meaning.specs.Expressions.{needed};
 ghost use Rattle.xs_top.specs.Outcome.{accepted, loading_drawing, loading};
 
-use crate::DRAWING_LIMIT;
 use crate::status::Status;
 use crate::steps::ask;
 use std::alloc::Global;
+use xs_base::laws::each_number_is_taken_once;
+use xs_base::limits::DRAWING_LIMIT;
 use xs_check::GoodScene;
 use xs_needs::row_drawings;
 use xs_outside::Library;
 use xs_pixel::Film;
 use xs_rawfile::{Drawing, Drawings, LevelCode, LevelFault, RawKind, read_level};
 use xs_scene::Kind;
-use xs_schematic::laws::each_number_is_taken_once;
 
 /// The kind of the files of a level.
 fn raw_kind(kind: Kind) -> RawKind
@@ -36,7 +37,7 @@ fn raw_kind(kind: Kind) -> RawKind
 
 /// The number of the palette of a level.
 fn palette(kind: Kind) -> Option<u32>
-    ensures { result ≡ palette_of kind }
+    ensures { result ≡ palette_number kind }
 {
     match kind {
         Kind::Colour => None,

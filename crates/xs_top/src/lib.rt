@@ -22,9 +22,3 @@ pub use laws::{
 };
 pub use status::{Status, status_number};
 pub use texts::fault_text;
-
-/// The most bytes that a scene file may have.
-pub const SCENE_LIMIT: u64 = 16_777_216;
-
-/// The most bytes that the file of a drawing may have.
-pub const DRAWING_LIMIT: u64 = 67_108_885;

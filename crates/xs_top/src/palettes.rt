@@ -1,11 +1,12 @@
 ghost use Rattle.std.specs.Prelude.{◌≡◌, ◌≤◌, length, IfOk};
+ghost use Rattle.xs_base.specs.declared.limits.TheConstants.{MOST_STYLES};
 ghost use Rattle.xs_palette.specs.Styles.{written, style_of};
 ghost use Rattle.xs_top.specs.Levels.{AreShown};
 
 use std::alloc::Global;
+use xs_base::{List, Memory};
 use xs_check::GoodScene;
 use xs_palette::{Palette, PaletteFault};
-use xs_pixel::{List, Memory};
 use xs_scene::Colours;
 
 /// The palettes of a scene as they are written.
@@ -23,7 +24,7 @@ pub(crate) fn palettes(alloc: Global, good: &GoodScene) -> Result<List<Palette>,
 
 /// A palette as it is written.
 fn written(alloc: Global, colours: &Colours) -> Result<Palette, Memory>
-    requires { length colours.now.styles ≤ 4096 }
+    requires { length colours.now.styles ≤ MOST_STYLES }
     ensures { IfOk result (λ palette. style_of palette ≡ style_of (written colours.now.styles)) }
 {
     match Palette::from_styles(alloc, colours.styles.items()) {

@@ -1,12 +1,14 @@
 ghost use Rattle.std.specs.Prelude.{◌≡◌, ◌≤◌, ◌<◌, ◌+◌, ◌^◌, [], List, ℕ, ◌++◌, Some, OnOk};
+ghost use Rattle.xs_base.specs.declared.limits.TheConstants.{LAST_ROW};
 ghost use Rattle.std.specs.List.{range_with_len};
 ghost use Rattle.xs_top.specs.Causes.{answer_of};
 ghost use Rattle.xs_top.specs.Trace.{Outcome, Contents, with_asked, with_shelf};
 ghost use Rattle.xs_top.specs.Leaves.{LeavesLibrary, LeavesOutput};
 ghost use Rattle.xs_top.specs.Runs.{Runs};
-ghost use Rattle.xs_top.specs.Told.{Files};
-ghost use Rattle.xs_top.specs.Levels.{film_of, needed, HasRoom, Holds};
-ghost use Rattle.xs_top.specs.Rows.{sections_of};
+ghost use Rattle.xs_top.specs.Files.{Files};
+ghost use Rattle.xs_top.specs.Levels.{film_of, HasRoom, Holds};
+ghost use Rattle.xs_meaning.specs.Expressions.{needed};
+ghost use Rattle.xs_base.specs.Sections.{sections_of};
 ghost use Rattle.xs_top.specs.Outcome.{rendering_section, rendering_sections};
 
 use crate::frames::place_rows;
@@ -14,6 +16,7 @@ use crate::levels::load_rows;
 use crate::palettes::palettes;
 use crate::status::Status;
 use std::alloc::Global;
+use xs_base::limits::SECTION_ROWS;
 use xs_check::GoodScene;
 use xs_direct::laws::drawings_hold_pixels;
 use xs_outside::{Library, Shelf};
@@ -21,9 +24,6 @@ use xs_pixel::Film;
 use xs_rawfile::Drawings;
 use xs_rawfile::laws::files_without_fault_hold_drawings;
 use xs_scene::Name;
-
-/// How many rows a section has; the last one may have fewer.
-const SECTION: u32 = 8;
 
 /// Renders a section: loads the drawings that its rows need, and then puts its frames on the shelf.
 fn render_section<K: Film, L: Library, S: Shelf>(
@@ -70,7 +70,7 @@ fn render_sections<K: Film, L: Library, S: Shelf>(
 ) -> Result<(), Status>
     requires film { K.pictures ≡ film_of (L.files lib.old) good.now }
     requires range { from ≤ to }
-    requires last { to ≤ 9999 }
+    requires last { to ≤ LAST_ROW }
     requires room { HasRoom good.now drawings.old }
     ensures told { (files : Files) → L.files lib.old ≡ Some files → Holds drawings.old []
         → (next : Outcome) (seen : Contents)
@@ -80,10 +80,10 @@ fn render_sections<K: Film, L: Library, S: Shelf>(
     ensures library { LeavesLibrary (L.files lib.old) (L.files lib.new) (L.faults lib.old) (L.faults lib.new) (answer_of result) }
     ensures shelf { LeavesOutput (S.faults shelf.old) (S.faults shelf.new) (answer_of result) }
 {
-    let sections = (to - from) / SECTION + 1;
+    let sections = (to - from) / SECTION_ROWS + 1;
     for section in 0..sections {
-        let first = from + SECTION * section;
-        let rows = (to + 1 - first).min(SECTION);
+        let first = from + SECTION_ROWS * section;
+        let rows = (to + 1 - first).min(SECTION_ROWS);
         render_section(alloc, good, first, rows, base, lib, shelf, drawings)?;
     }
     Ok(())
@@ -101,7 +101,7 @@ pub(crate) fn render_rows<K: Film, L: Library, S: Shelf>(
 ) -> Result<(), Status>
     requires film { K.pictures ≡ film_of (L.files lib.old) good.now }
     requires range { from ≤ to }
-    requires last { to ≤ 9999 }
+    requires last { to ≤ LAST_ROW }
     ensures told { (files : Files) → L.files lib.old ≡ Some files → (next : Outcome) (seen : Contents)
         → Runs (rendering_sections files good.now base.now [] (sections_of from to) next) (λ _. next)
         (with_shelf (with_asked seen (L.asked lib.old)) (S.objects shelf.old))

@@ -1,8 +1,8 @@
 ghost use Rattle.std.specs.Prelude.{◌≡◌};
-ghost use Rattle.xs_top.specs.Texts.{number_of, IsStatusOf, scene_status};
+ghost use Rattle.xs_top.specs.Texts.{status_number, IsStatusOf, scene_status};
 
-use xs_json::{FieldFault, SceneFault};
-use xs_pixel::Memory;
+use xs_base::Memory;
+use xs_fault::{FieldFault, SceneFault};
 use xs_rawfile::LevelCode;
 use xs_words::{Usage, WordsFault};
 
@@ -59,7 +59,7 @@ pub(crate) fn status_of_scene(fault: FieldFault) -> Status
 
 /// The number with which the program ends.
 pub fn status_number(status: &Status) -> u8
-    ensures { result ≡ number_of status.now }
+    ensures { result ≡ status_number status.now }
 {
     match status {
         Status::Ok => 0,

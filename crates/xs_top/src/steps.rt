@@ -3,7 +3,7 @@ ghost use Rattle.xs_top.specs.Causes.{answer_of, is_of_library, is_of_output};
 ghost use Rattle.xs_top.specs.Trace.{Outcome, Contents, puts, with_asked, with_shelf, with_notes};
 ghost use Rattle.xs_top.specs.Leaves.{LeavesLibrary, LeavesOutput};
 ghost use Rattle.xs_top.specs.Runs.{Runs, is_broken};
-ghost use Rattle.xs_top.specs.Told.{Files};
+ghost use Rattle.xs_top.specs.Files.{Files};
 ghost use Rattle.xs_top.specs.Outcome.{asking, placing, noting};
 
 use crate::status::Status;

@@ -3,8 +3,8 @@ ghost use Rattle.xs_top.specs.Texts.{text_of, usage_text_of, path_text_of, scene
 
 use crate::status::Status;
 use std::alloc::Global;
-use xs_json::{Path, SceneFault};
-use xs_pixel::Memory;
+use xs_base::Memory;
+use xs_fault::{Path, SceneFault};
 use xs_rawfile::LevelCode;
 use xs_words::Usage;
 

@@ -2,7 +2,7 @@ use Rattle.std.proofs.Common.{◌≡◌, ℕ, ◌+◌, ◌≤◌, ◌<◌, List,
 use Rattle.std.proofs.lemmas.Bool.{and_parts, and_from, leb-true, le-leb}
 use Rattle.std.proofs.lemmas.Fmt.{digits_decimal, digits_value-decimal, decimal_nonempty, length-decimal-le}
 use Rattle.std.proofs.lemmas.Str.Parse.{digits_value_short}
-use Rattle.xs_words.specs.Grammar.{is_number, number_of, is_within, is_last_row, is_base}
+use Rattle.xs_words.specs.Grammar.{is_number, number_in, is_within, is_last_row, is_base}
 use Rattle.xs_words.specs.Commands.{IsRange, IsBase}
 use Rattle.xs_words.proofs.Numbers.{numerals}
 
@@ -37,8 +37,8 @@ pub base_passes : (text : List ℕ) → IsBase text → is_base text ≡ true
 unfolding is_base
 base_passes text base = and_from _ _ base.0 (le-leb (length text) 180 base.1)
 
-pub small_number : (text : List ℕ) → is_number text ≡ true → number_of text < 1000000000
-unfolding is_number number_of is_within
+pub small_number : (text : List ℕ) → is_number text ≡ true → number_in text < 1000000000
+unfolding is_number number_in is_within
 small_number text e =
     let both = and_parts _ _ e in
     let bounds = and_parts _ _ both.1 in
@@ -50,6 +50,6 @@ decimal_passes n small =
     and_from _ _ (digits_decimal numerals n (omega arith))
     (within_passes 1 9 (length (decimal n)) (decimal_nonempty n (omega arith)) (length-decimal-le 9 n (omega arith) (omega arith) (omega arith)))
 
-pub number_of-decimal : (n : ℕ) → n < 1000000000 → number_of (decimal n) ≡ n
-unfolding number_of
-number_of-decimal n small = digits_value-decimal numerals n (omega arith)
+pub number_in-decimal : (n : ℕ) → n < 1000000000 → number_in (decimal n) ≡ n
+unfolding number_in
+number_in-decimal n small = digits_value-decimal numerals n (omega arith)

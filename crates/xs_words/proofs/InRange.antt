@@ -4,7 +4,7 @@ use Rattle.xs_words.specs.declared.fault.Usage.{Usage}
 use Rattle.xs_words.specs.declared.fault.Usage.TheVariants.{Count}
 use Rattle.xs_words.specs.declared.fault.WordsFault.{WordsFault}
 use Rattle.xs_words.specs.declared.fault.WordsFault.TheVariants as outcome
-use Rattle.xs_words.specs.Grammar.{Words, Check, checked, counted, render_checks, dry_checks, show_checks, make_checks, again_checks, render_reading, dry_reading, show_reading, make_reading, again_reading, reading_of, Reads}
+use Rattle.xs_words.specs.Grammar.{Words, Check, passing, counted, render_checks, dry_checks, show_checks, make_checks, again_checks, render_reading, dry_reading, show_reading, make_reading, again_reading, reading_of, Reads}
 use Rattle.xs_words.specs.Commands.{IsCommand}
 use Rattle.xs_words.proofs.Bounds.{within_from_test, range_from_tests, base_from_test, small_number}
 
@@ -13,20 +13,24 @@ abbrev AllPassed : List Check → Type 0
 AllPassed [] = Unit {0}
 AllPassed (check ∷ rest) = (check.passes ≡ true) × AllPassed rest
 
-passed_from_ok : (test : Bool) (reading : Result Command Usage) (fault : Usage) (command : Command) → cond test reading (Err fault) ≡ Ok command → (test ≡ true) × (reading ≡ Ok command)
+passed_from_ok :
+    (test : Bool) (reading : Result Command Usage) (fault : Usage) (command : Command)
+    → cond test reading (Err fault) ≡ Ok command → (test ≡ true) × (reading ≡ Ok command)
 passed_from_ok true reading fault command e = (refl, e)
 passed_from_ok false reading fault command e = absurd cc
 
-all_passed : (checks : List Check) (meant command : Command) → checked checks meant ≡ Ok command → AllPassed checks × (meant ≡ command)
+all_passed : (checks : List Check) (meant command : Command) → passing checks meant ≡ Ok command → AllPassed checks × (meant ≡ command)
 all_passed [] meant command e = (tt, cc)
 all_passed (check ∷ rest) meant command e =
-    let here = passed_from_ok check.passes (checked rest meant) check.fault command e in
+    let here = passed_from_ok check.passes (passing rest meant) check.fault command e in
     let there = all_passed rest meant command here.1 in
     ((here.0, there.0), there.1)
 
-counted_passed : (words : Words) (count : ℕ) (checks : List Check) (meant command : Command) → counted words count (checked checks meant) ≡ Ok command → AllPassed checks × (meant ≡ command)
+counted_passed :
+    (words : Words) (count : ℕ) (checks : List Check) (meant command : Command)
+    → counted words count (passing checks meant) ≡ Ok command → AllPassed checks × (meant ≡ command)
 counted_passed words count checks meant command e =
-    let there = passed_from_ok (length words == count) (checked checks meant) Count command e in
+    let there = passed_from_ok (length words == count) (passing checks meant) Count command e in
     all_passed checks meant command there.1
 
 one_of : (test : Bool) (first second : Result Command Usage) (P : Result Command Usage → Type 0) → P first → P second → P (cond test first second)

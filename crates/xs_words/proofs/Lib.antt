@@ -1,6 +1,6 @@
-pub mod Numbers
-pub mod Bounds
-pub mod InRange
-pub mod ReadBack
-pub mod FirstFault
-pub mod UnknownCommand
+mod Numbers
+mod Bounds
+mod InRange
+mod ReadBack
+mod FirstFault
+mod UnknownCommand

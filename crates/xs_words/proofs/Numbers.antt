@@ -4,7 +4,7 @@ use Rattle.std.specs.Char.{is_ascii_digit}
 use Rattle.std.specs.Str.Parse.{digits_value, ParsesUnsigned}
 use Rattle.std.proofs.lemmas.Bool.{and_parts, leb-true}
 use Rattle.std.proofs.lemmas.Str.Parse.{IsNumeralModel, IsDigitsTest, numerals_by_value, parse_gives, digits_value_short}
-use Rattle.xs_words.specs.Grammar.{is_number, number_of, is_within}
+use Rattle.xs_words.specs.Grammar.{is_number, number_in, is_within}
 
 digits_test : IsDigitsTest (λ ds. list_all is_ascii_digit ds ≡ true)
 digits_test = search rules
@@ -14,8 +14,8 @@ pub numerals : IsNumeralModel (λ ds. list_all is_ascii_digit ds ≡ true) (digi
 numerals = numerals_by_value _ digits_test
 
 -- a number has at most nine digits, so it fits 32 bits, and `parse` reads it
-pub parse_number : {E : Type 0} (text : List ℕ) (r : Result ℕ E) → ParsesUnsigned 32 10 text r → is_number text ≡ true → r ≡ Ok (number_of text)
-unfolding is_number number_of is_within
+pub parse_number : {E : Type 0} (text : List ℕ) (r : Result ℕ E) → ParsesUnsigned 32 10 text r → is_number text ≡ true → r ≡ Ok (number_in text)
+unfolding is_number number_in is_within
 parse_number text r parses e =
     let both = and_parts _ _ e in
     let bounds = and_parts _ _ both.1 in

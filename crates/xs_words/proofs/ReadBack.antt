@@ -3,15 +3,15 @@ use Rattle.xs_words.specs.declared.command.Command.{Command}
 use Rattle.xs_words.specs.declared.command.Command.TheVariants.{Render, Dry, Show, Make, Again}
 use Rattle.xs_words.specs.Grammar.{reading_of}
 use Rattle.xs_words.specs.Commands.{IsReadBack}
-use Rattle.xs_words.proofs.Bounds.{within_passes, last_row_passes, base_passes, decimal_passes, number_of-decimal}
+use Rattle.xs_words.proofs.Bounds.{within_passes, last_row_passes, base_passes, decimal_passes, number_in-decimal}
 
 pub read_back : (command : Command) → IsReadBack command
 unfolding reading_of
 read_back (Render scene from to workers base) is =
     rw (
-      number_of-decimal from (omega arith),
-      number_of-decimal to (omega arith),
-      number_of-decimal workers (omega arith),
+      number_in-decimal from (omega arith),
+      number_in-decimal to (omega arith),
+      number_in-decimal workers (omega arith),
       decimal_passes from (omega arith),
       decimal_passes to (omega arith),
       decimal_passes workers (omega arith),
@@ -24,8 +24,8 @@ read_back (Render scene from to workers base) is =
     refl
 read_back (Dry scene from to) is =
     rw (
-      number_of-decimal from (omega arith),
-      number_of-decimal to (omega arith),
+      number_in-decimal from (omega arith),
+      number_in-decimal to (omega arith),
       decimal_passes from (omega arith),
       decimal_passes to (omega arith),
       within_passes 1 9999 from is.1.0.0 is.1.0.1,
@@ -36,9 +36,9 @@ read_back (Dry scene from to) is =
 read_back (Show scene) is = rw is refl
 read_back (Make seed rows workers) is =
     rw (
-      number_of-decimal seed (omega arith),
-      number_of-decimal rows (omega arith),
-      number_of-decimal workers (omega arith),
+      number_in-decimal seed (omega arith),
+      number_in-decimal rows (omega arith),
+      number_in-decimal workers (omega arith),
       decimal_passes seed (omega arith),
       decimal_passes rows (omega arith),
       decimal_passes workers (omega arith),
@@ -48,9 +48,9 @@ read_back (Make seed rows workers) is =
     refl
 read_back (Again old new from to workers base) is =
     rw (
-      number_of-decimal from (omega arith),
-      number_of-decimal to (omega arith),
-      number_of-decimal workers (omega arith),
+      number_in-decimal from (omega arith),
+      number_in-decimal to (omega arith),
+      number_in-decimal workers (omega arith),
       decimal_passes from (omega arith),
       decimal_passes to (omega arith),
       decimal_passes workers (omega arith),

@@ -31,7 +31,7 @@ failing fault = record { passes = false; fault = fault } ∷ []
 abbrev pub counted_checks : Words → ℕ → List Check → List Check
 counted_checks words count checks = if length words == count then checks else failing Count
 
--- all that is checked of words
+-- all that is passing of words
 unfoldable pub checks_of : Words → List Check
 checks_of words =
     if length words == 0 then failing NoCommand

@@ -1,4 +1,5 @@
 use Rattle.std.specs.Prelude.{ℕ, ◌+◌, ◌-◌, ◌≡◌, ◌&&◌, ◌==◌, Bool, List, [], ◌∷◌, length, Result, Ok, Err, nat_le, codes, slice_index_or, if◌then◌else◌}
+use Rattle.xs_base.specs.declared.limits.TheConstants.{LAST_ROW, MOST_WORKERS, LONGEST_BASE, LONGEST_SPAN, LONGEST_SPAN_OF_TWO, MOST_GENERATED_ROWS}
 use Rattle.std.specs.Str.{bytes_eq}
 use Rattle.std.specs.List.{list_all}
 use Rattle.std.specs.Char.{is_ascii_digit}
@@ -27,16 +28,16 @@ is_within least most n = nat_le least n && nat_le n most
 unfoldable pub is_number : List ℕ → Bool
 is_number text = list_all is_ascii_digit text && is_within 1 9 (length text)
 
-unfoldable pub number_of : List ℕ → ℕ
-number_of text = digits_value 10 text
+unfoldable pub number_in : List ℕ → ℕ
+number_in text = digits_value 10 text
 
 -- the name that frames begin with leaves room for their rows
 unfoldable pub is_base : List ℕ → Bool
-is_base text = is_name text && nat_le (length text) 180
+is_base text = is_name text && nat_le (length text) LONGEST_BASE
 
 -- the last row of a range: at least the first, and at most `span` rows after it
 unfoldable pub is_last_row : ℕ → ℕ → ℕ → Bool
-is_last_row from span to = nat_le from to && nat_le to 9999 && nat_le to (from + span)
+is_last_row from span to = nat_le from to && nat_le to LAST_ROW && nat_le to (from + span)
 
 -- a test of a word, and the fault of words that fail it
 pub record Check : Type 0 where
@@ -48,13 +49,13 @@ number words place = record { passes = is_number (word words place); fault = Num
 
 abbrev pub within : Words → ℕ → ℕ → ℕ → Check
 within words place least most =
-    record { passes = is_within least most (number_of (word words place)); fault = Range place }
+    record { passes = is_within least most (number_in (word words place)); fault = Range place }
 
 -- the word is the last row of a range whose first row is the word before it
 abbrev pub last_row : Words → ℕ → ℕ → Check
 last_row words place span =
     record {
-      passes = is_last_row (number_of (word words (place - 1))) span (number_of (word words place));
+      passes = is_last_row (number_in (word words (place - 1))) span (number_in (word words place));
       fault = Range place;
     }
 
@@ -65,9 +66,9 @@ abbrev pub base : Words → ℕ → Check
 base words place = record { passes = is_base (word words place); fault = Name place }
 
 -- the command if the words pass all checks, else the fault of the first check that they fail
-abbrev pub checked : List Check → Command → Result Command Usage
-checked [] command = Ok command
-checked (check ∷ rest) command = if check.passes then checked rest command else Err check.fault
+abbrev pub passing : List Check → Command → Result Command Usage
+passing [] command = Ok command
+passing (check ∷ rest) command = if check.passes then passing rest command else Err check.fault
 
 -- the checks of each command, in the order of the codes of their faults, and within a code in the order of
 -- their words
@@ -75,24 +76,24 @@ checked (check ∷ rest) command = if check.passes then checked rest command els
 abbrev pub render_checks : Words → List Check
 render_checks words =
     number words 3 ∷ number words 4 ∷ number words 5
-    ∷ within words 3 1 9999 ∷ last_row words 4 4095 ∷ within words 5 1 64
+    ∷ within words 3 1 LAST_ROW ∷ last_row words 4 LONGEST_SPAN ∷ within words 5 1 MOST_WORKERS
     ∷ name words 2 ∷ base words 6 ∷ []
 
 abbrev pub dry_checks : Words → List Check
 dry_checks words =
-    number words 3 ∷ number words 4 ∷ within words 3 1 9999 ∷ last_row words 4 4095 ∷ name words 2 ∷ []
+    number words 3 ∷ number words 4 ∷ within words 3 1 LAST_ROW ∷ last_row words 4 LONGEST_SPAN ∷ name words 2 ∷ []
 
 abbrev pub show_checks : Words → List Check
 show_checks words = name words 2 ∷ []
 
 abbrev pub make_checks : Words → List Check
 make_checks words =
-    number words 2 ∷ number words 3 ∷ number words 4 ∷ within words 3 1 240 ∷ within words 4 1 64 ∷ []
+    number words 2 ∷ number words 3 ∷ number words 4 ∷ within words 3 1 MOST_GENERATED_ROWS ∷ within words 4 1 MOST_WORKERS ∷ []
 
 abbrev pub again_checks : Words → List Check
 again_checks words =
     number words 4 ∷ number words 5 ∷ number words 6
-    ∷ within words 4 1 9999 ∷ last_row words 5 2047 ∷ within words 6 1 64
+    ∷ within words 4 1 LAST_ROW ∷ last_row words 5 LONGEST_SPAN_OF_TWO ∷ within words 6 1 MOST_WORKERS
     ∷ name words 2 ∷ name words 3 ∷ base words 7 ∷ []
 
 -- what words say that should be so many
@@ -103,32 +104,32 @@ counted words count reading = if length words == count then reading else Err Cou
 abbrev pub render_reading : Words → Result Command Usage
 render_reading words =
     counted words 6
-    (checked (render_checks words)
-    (Render (word words 2) (number_of (word words 3)) (number_of (word words 4)) (number_of (word words 5)) (word words 6)))
+    (passing (render_checks words)
+    (Render (word words 2) (number_in (word words 3)) (number_in (word words 4)) (number_in (word words 5)) (word words 6)))
 
 -- dry SCENE FROM TO
 abbrev pub dry_reading : Words → Result Command Usage
 dry_reading words =
     counted words 4
-    (checked (dry_checks words) (Dry (word words 2) (number_of (word words 3)) (number_of (word words 4))))
+    (passing (dry_checks words) (Dry (word words 2) (number_in (word words 3)) (number_in (word words 4))))
 
 -- show SCENE
 abbrev pub show_reading : Words → Result Command Usage
-show_reading words = counted words 2 (checked (show_checks words) (Show (word words 2)))
+show_reading words = counted words 2 (passing (show_checks words) (Show (word words 2)))
 
 -- make SEED ROWS WORKERS
 abbrev pub make_reading : Words → Result Command Usage
 make_reading words =
     counted words 4
-    (checked (make_checks words)
-    (Make (number_of (word words 2)) (number_of (word words 3)) (number_of (word words 4))))
+    (passing (make_checks words)
+    (Make (number_in (word words 2)) (number_in (word words 3)) (number_in (word words 4))))
 
 -- again OLD NEW FROM TO WORKERS BASE
 abbrev pub again_reading : Words → Result Command Usage
 again_reading words =
     counted words 7
-    (checked (again_checks words)
-    (Again (word words 2) (word words 3) (number_of (word words 4)) (number_of (word words 5)) (number_of (word words 6)) (word words 7)))
+    (passing (again_checks words)
+    (Again (word words 2) (word words 3) (number_in (word words 4)) (number_in (word words 5)) (number_in (word words 6)) (word words 7)))
 
 -- what words say: a command, or the fault that is told
 unfoldable pub reading_of : Words → Result Command Usage

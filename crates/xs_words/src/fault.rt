@@ -1,5 +1,5 @@
 use std::alloc::AllocError;
-use xs_pixel::Memory;
+use xs_base::Memory;
 
 /// Why words are no command. A fault of one word has its number; the command itself is word 1.
 #[derive(Clone, Copy, Debug, PartialEq, Eq)]

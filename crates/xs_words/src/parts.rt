@@ -1,16 +1,13 @@
 ghost use Rattle.std.specs.Prelude.{◌≡◌, ◌<◌, ◌≤◌, ◌-◌, ◌+◌, ◌^◌, ◌==◌, true, false, length, map, string_bytes, MatchResult, OnOk};
 ghost use Rattle.std.specs.List.{list_all};
 ghost use Rattle.std.specs.Char.{is_ascii_digit};
-ghost use Rattle.xs_words.specs.Grammar.{word, is_number, number_of, is_within, is_last_row};
+ghost use Rattle.xs_words.specs.Grammar.{word, is_number, number_in, is_within, is_last_row};
 ghost use Rattle.xs_words.specs.Parts.{ReadsName, ReadsBase};
 
 use crate::fault::{Usage, WordsFault};
 use std::alloc::Global;
+use xs_base::limits::{LAST_ROW, LONGEST_BASE};
 use xs_scene::Name;
-use xs_scene::range::LAST_ROW;
-
-/// The most bytes of the name that frames begin with; it leaves room for their rows.
-const LONGEST_BASE: usize = 180;
 
 /// The word with this number; words count from 1.
 pub(crate) fn word(words: &[String], place: u32) -> &str
@@ -57,7 +54,7 @@ fn is_number(text: &str) -> bool
 /// The number that a word says.
 #[tactic(auto, using(crate::proofs::Numbers::parse_number))]
 pub(crate) fn number(text: &str, place: u32) -> Result<u32, Usage>
-    ensures { MatchResult result (λ n. (is_number text.now ≡ true) × (n ≡ number_of text.now))
+    ensures { MatchResult result (λ n. (is_number text.now ≡ true) × (n ≡ number_in text.now))
         (λ fault. (is_number text.now ≡ false) × (fault ≡ Usage.Number place)) }
 {
     if !is_number(text) {

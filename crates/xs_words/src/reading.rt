@@ -6,19 +6,9 @@ use crate::command::Command;
 use crate::fault::{Usage, WordsFault};
 use crate::parts::{base, counted, last_row, name, number, within, word};
 use std::alloc::Global;
-use xs_scene::range::LAST_ROW;
-
-/// The most rows after the first that one command renders.
-const LONGEST_SPAN: u32 = 4095;
-
-/// The same of `again`, which renders each row twice.
-const LONGEST_SPAN_OF_TWO: u32 = 2047;
-
-/// The most threads that render at once.
-const MOST_WORKERS: u32 = 64;
-
-/// The most rows of a generated scene that are rendered.
-const MOST_GENERATED_ROWS: u32 = 240;
+use xs_base::limits::{
+    LAST_ROW, LONGEST_SPAN, LONGEST_SPAN_OF_TWO, MOST_GENERATED_ROWS, MOST_WORKERS,
+};
 
 fn read_render(alloc: Global, words: &[String]) -> Result<Command, WordsFault>
     ensures { Reads result (render_reading (map string_bytes words.now)) }

@@ -1,5 +1,5 @@
 use Rattle.std.proofs.Common.{◌≡◌, ◌<◌, true, false, is_err, length, arith}
-use Rattle.xs_json.specs.Paths.{index_at}
+use Rattle.xs_fault.specs.Paths.{index_at}
 use Rattle.xs_check.specs.Finding.{EachAt}
 use Rattle.xs_check.proofs.Findings.{each_passed, each_failed, finds_none}
 use Rattle.xs_check.proofs.finding.each_at.Goals as goal

@@ -1,5 +1,5 @@
 use Rattle.std.proofs.Common.{drop}
-use Rattle.xs_json.specs.Paths.{index_at}
+use Rattle.xs_fault.specs.Paths.{index_at}
 use Rattle.xs_check.specs.Finding.{Each}
 use Rattle.xs_check.proofs.Findings.{Covers}
 use Rattle.xs_check.proofs.finding.each_at.Given as goal

@@ -7,8 +7,9 @@ use Rattle.xs_check.proofs.good.check.Goals as goal
 pub invariant_of-result : goal.invariant_of-result
 invariant_of-result c =
     record {
-      good = good_scene c.chains_are_told_link_by_link.ensures c.chains_without_a_cycle_are_short.ensures c.args.s c.in_ok-first_fault.ensures c.in_range.ensures;
-      index_of = c.in_ok-index.ensures;
+      good = good_scene c.chains_are_told_link_by_link.ensures c.chains_without_a_cycle_are_short.ensures c.args.s c.in_ok-index.ensures.found
+          c.in_range.ensures;
+      index_of = c.in_ok-index.ensures.index;
       numbering =
           subst
           (λ (levels : List LevelRecord). IsNumbering levels (length levels) c.in_ok-numbers.numbers.firsts.items c.in_ok-numbers.numbers.owners.items)

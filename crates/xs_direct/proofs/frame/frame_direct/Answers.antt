@@ -9,8 +9,10 @@ pub returns-clause-value : goal.returns-clause-value
 returns-clause-value g c =
     let scene = c.behind-s.view_is ∙ c.scene.ensures.value in
     let camera = c.camera.view_is ∙ ap (λ (s : SceneRecord). s.camera) scene in
-    frame-file c.args.s.now (pictures_in c.args.drawings.now) c.args.row c.camera.inside.w c.camera.inside.h c.push_frame_header.new.bytes.items c.push_lines.new.bytes.items
-    (c.in_ok-push_frame_header.ensures ∙ ap (λ (xs : List ℕ). xs ++ frame_header_of c.camera.inside.w c.camera.inside.h) c.in_ok-bytes.ensures.items) c.in_ok-push_lines.ensures (ap (λ (c : CameraRecord). c.w) camera) (ap (λ (c : CameraRecord). c.h) camera)
+    frame-file c.args.s.now (pictures_in c.args.drawings.now) c.args.row c.camera.inside.w c.camera.inside.h c.push_frame_header.new.bytes.items
+    c.push_lines.new.bytes.items
+    (c.in_ok-push_frame_header.ensures ∙ ap (λ (xs : List ℕ). xs ++ frame_header_of c.camera.inside.w c.camera.inside.h) c.in_ok-bytes.ensures.items)
+    c.in_ok-push_lines.ensures (ap (λ (c : CameraRecord). c.w) camera) (ap (λ (c : CameraRecord). c.h) camera)
 
 pub returns-clause-told : goal.returns-clause-told
 returns-clause-told g c = λ pictures tells pixels are.

@@ -1,5 +1,5 @@
 use Rattle.std.proofs.Common.{length, subst}
-use Rattle.xs_graph.specs.First.{IsFirstWithout}
+use Rattle.xs_base.specs.First.{IsFirstWithout}
 use Rattle.xs_graph.specs.Labels.{NeverRise, Falls}
 use Rattle.xs_graph.specs.Paths.{Links}
 use Rattle.xs_graph.proofs.Levels.{first_on_cycle_told}

@@ -13,7 +13,8 @@ loop-i-init c =
 pub returns-then-i-len : goal.returns-then-i-len
 returns-then-i-len c =
     let all : length c.loop-i.met.items ≤ c.loop-i.i = omega arith in
-    search_ends c.args.links.now c.args.from c.loop-i.seen.items c.loop-i.met.items c.loop-i.i c.loop-i.invariant all c.index.result.now c.requires c.index.ensures
+    search_ends c.args.links.now c.args.from c.loop-i.seen.items c.loop-i.met.items c.loop-i.i c.loop-i.invariant all c.index.result.now c.requires
+    c.index.ensures
 
 pub loop-i-preserved : goal.loop-i-preserved
 loop-i-preserved c =
@@ -30,4 +31,5 @@ loop-i-preserved c =
 pub returns : goal.returns
 returns c =
     let all : length c.loop-i.met.items ≤ c.loop-i.i = omega arith in
-    search_ends c.args.links.now c.args.from c.loop-i.seen.items c.loop-i.met.items c.loop-i.i c.loop-i.invariant all c.index-2.result.now c.requires c.index-2.ensures
+    search_ends c.args.links.now c.args.from c.loop-i.seen.items c.loop-i.met.items c.loop-i.i c.loop-i.invariant all c.index-2.result.now c.requires
+    c.index-2.ensures

@@ -11,7 +11,8 @@ returns g c =
     let row = g.T.HasRow.row_of in
     let sorted = c.sort_by_key-2.new.self.items in
     let rows = c.in_ok-sort_by_key.ensures.sorted row (answers_always _ _ _ (λ f a r h k. search rules)) in
-    let ties = ties_still_rise row group c.sort_by_key.new.self.items sorted rows (c.sort_by_key-2.ensures.stable group (answers_always _ _ _ (λ f a r h k. search rules))) in
+    let ties = ties_still_rise row group c.sort_by_key.new.self.items sorted rows
+    (c.sort_by_key-2.ensures.stable group (answers_always _ _ _ (λ f a r h k. search rules))) in
     let groups = IsNonDecreasingBy-from_sort_by_key group sorted c.in_ok-sort_by_key-2.ensures.sorted (λ a r q k. search rules) in
     let moved : IsPermutation c.args.items.now sorted =
     subst (λ xs. IsPermutation xs sorted) c.in_ok-sorted.ensures.items

@@ -8,7 +8,8 @@ returns-then-row-exposure c column moved apart =
     let e = c.in-Some.exposure in
     let to : c.exposure.inside.to ≡ e.to = ap (λ (x : ExposureRecord). x.to) c.exposure.view_is in
     let here : c.args.row ≤ e.to = omega (arith, c.if-row-exposure.true) in
-    c.seen_at.ensures ∙ cell_found column c.args.cells.now c.args.row moved apart (c.cells_are_chosen_by_row.ensures.shown column c.args.row) e c.in-Some.ensures here
+    c.seen_at.ensures ∙ cell_found column c.args.cells.now c.args.row moved apart
+    (c.cells_are_chosen_by_row.ensures.shown column c.args.row) e c.in-Some.ensures here
 
 pub returns-else-row-exposure : goal.returns-else-row-exposure
 returns-else-row-exposure c column moved apart =

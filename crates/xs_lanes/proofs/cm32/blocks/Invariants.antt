@@ -1,7 +1,7 @@
 use Rattle.std.proofs.Common.{◌-◌, length}
-use Rattle.xs_pixel.specs.Rows.{pixels}
+use Rattle.xs_pixel.specs.PixelRows.{pixels}
 use Rattle.xs_cm32.specs.Word.{colour_under}
-use Rattle.xs_lanes.specs.Colours.{looked_up}
+use Rattle.xs_lanes.specs.WordColours.{looked_up}
 use Rattle.xs_lanes.proofs.Kept.{Kept}
 use Rattle.xs_lanes.proofs.cm32.blocks.Given as goal
 

@@ -2,10 +2,10 @@ use Rattle.std.proofs.Common.{◌≡◌, ℕ, ◌-◌, ◌/◌, length, min, sub
 use Rattle.std.proofs.Math.Path.{fun_ext}
 use Rattle.std.proofs.lemmas.Simd.{Each1-get_or}
 use Rattle.xs_pixel.specs.Channels.{Channels, clear, IsPixel}
-use Rattle.xs_pixel.specs.Rows.{pixels}
+use Rattle.xs_pixel.specs.PixelRows.{pixels}
 use Rattle.xs_cm32.specs.Word.{ink_of, paint_of, colour_under}
 use Rattle.xs_palette.specs.Styles.{style_of}
-use Rattle.xs_lanes.specs.Colours.{looked_up}
+use Rattle.xs_lanes.specs.WordColours.{looked_up}
 use Rattle.xs_lanes.proofs.Lengths.{Each1-colours}
 use Rattle.xs_lanes.proofs.cm32.cm32_row.Goals as goal
 

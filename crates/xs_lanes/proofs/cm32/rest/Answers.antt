@@ -1,8 +1,8 @@
 use Rattle.std.proofs.Common.{◌≡◌, ℕ, [], ◌∷◌, length, map, refl, ap, ◌∙◌, arith}
 use Rattle.std.specs.Simd.Lanes.{chunk}
 use Rattle.xs_pixel.specs.Channels.{Channels}
-use Rattle.xs_pixel.specs.Rows.{pixels}
-use Rattle.xs_cm32.specs.Rows.{words}
+use Rattle.xs_pixel.specs.PixelRows.{pixels}
+use Rattle.xs_cm32.specs.WordRows.{words}
 use Rattle.xs_cm32.specs.Word.{ink_of, colour_of, colour_under}
 use Rattle.xs_palette.specs.Styles.{style_of}
 use Rattle.xs_lanes.proofs.Fours.{part_of_map}

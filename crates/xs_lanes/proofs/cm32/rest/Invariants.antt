@@ -1,5 +1,5 @@
 use Rattle.std.proofs.Common.{◌-◌, length, map}
-use Rattle.xs_cm32.specs.Rows.{words}
+use Rattle.xs_cm32.specs.WordRows.{words}
 use Rattle.xs_cm32.specs.Word.{colour_under}
 use Rattle.xs_palette.specs.Styles.{style_of}
 use Rattle.xs_lanes.specs.Done.{Done}

@@ -1,6 +1,6 @@
 use Rattle.std.proofs.Common.{refl, ◌∙◌, arith}
 use Rattle.xs_pixel.specs.Channels.{IsPixel}
-use Rattle.xs_pixel.proofs.Rows.{chunk_of_pixels}
+use Rattle.xs_pixel.proofs.PixelRowLemmas.{chunk_of_pixels}
 use Rattle.xs_lanes.proofs.Lengths.{same_length}
 use Rattle.xs_lanes.proofs.Steps.{done_more, part_of_zip2}
 use Rattle.xs_lanes.proofs.kernel.blocks.Goals as goal

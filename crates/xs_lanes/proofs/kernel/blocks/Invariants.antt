@@ -1,6 +1,6 @@
 use Rattle.std.proofs.Common.{◌-◌, length}
 use Rattle.std.specs.Simd.Lanes.{zip2}
-use Rattle.xs_pixel.specs.Rows.{pixels}
+use Rattle.xs_pixel.specs.PixelRows.{pixels}
 use Rattle.xs_lanes.specs.Done.{Done}
 use Rattle.xs_lanes.proofs.kernel.blocks.Given as goal
 

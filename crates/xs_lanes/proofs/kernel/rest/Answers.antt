@@ -1,8 +1,8 @@
 use Rattle.std.proofs.Common.{◌≡◌, length, refl, ◌∙◌, arith}
 use Rattle.std.specs.Simd.Lanes.{zip2, chunk}
 use Rattle.xs_pixel.specs.Channels.{IsPixel}
-use Rattle.xs_pixel.specs.Rows.{pixels}
-use Rattle.xs_pixel.proofs.Rows.{chunk_of_pixels}
+use Rattle.xs_pixel.specs.PixelRows.{pixels}
+use Rattle.xs_pixel.proofs.PixelRowLemmas.{chunk_of_pixels}
 use Rattle.xs_lanes.proofs.Lengths.{same_length, length-results}
 use Rattle.xs_lanes.proofs.Steps.{done_more, done_all, part_of_zip2}
 use Rattle.xs_lanes.proofs.kernel.rest.Goals as goal

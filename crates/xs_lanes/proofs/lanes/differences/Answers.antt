@@ -9,7 +9,8 @@ use Rattle.xs_lanes.proofs.lanes.differences.Goals as goal
 pub returns-clause-value : goal.returns-clause-value
 returns-clause-value c =
     let less : List ℕ → List ℕ = λ xs. zip2 (λ a b. (a + (2 ^ 8 - b)) % 2 ^ 8) xs c.args.y in
-    ap (λ ms. less (sel_l ms c.args.y c.args.x)) (tops_compared w8 ltb c.args.x c.args.y) ∙ (ap less (greater_chosen c.args.x c.args.y) ∙ differences_are c.args.x c.args.y c.fits-x.1 c.fits-y.1)
+    ap (λ ms. less (sel_l ms c.args.y c.args.x)) (tops_compared w8 ltb c.args.x c.args.y)
+    ∙ (ap less (greater_chosen c.args.x c.args.y) ∙ differences_are c.args.x c.args.y c.fits-x.1 c.fits-y.1)
 
 pub returns-clause-long : goal.returns-clause-long
 returns-clause-long c =

@@ -1,7 +1,7 @@
 use Rattle.xs_meaning.proofs.SameValue.{IsPixel-row_under}
 use Rattle.xs_meaning.specs.Palettes.{none_dropped}
-use Rattle.xs_meaning.specs.Points.{plus}
-use Rattle.xs_meaning.specs.Rows.{camera_at}
+use Rattle.xs_pixel.specs.Points.{plus}
+use Rattle.xs_meaning.specs.RowValues.{camera_at}
 use Rattle.xs_meaning.proofs.expressions.frames_hold_pixels.Goals as goal
 
 pub returns : goal.returns

@@ -1,7 +1,7 @@
 use Rattle.std.proofs.Common.{refl}
 use Rattle.xs_meaning.specs.Drawings.{colours_of}
 use Rattle.xs_meaning.specs.Expressions.{by_offsets}
-use Rattle.xs_meaning.specs.Rows.{by_points}
+use Rattle.xs_meaning.specs.RowValues.{by_points}
 use Rattle.xs_meaning.proofs.rules.migration_changes_nothing.Goals as goal
 
 -- no rule asks for the format

@@ -1,5 +1,5 @@
 use Rattle.xs_meaning.specs.Expressions.{by_offsets}
-use Rattle.xs_meaning.specs.Rows.{by_points}
+use Rattle.xs_meaning.specs.RowValues.{by_points}
 use Rattle.xs_meaning.proofs.Depth.{whole_row-deeper, whole_input-deeper}
 use Rattle.xs_meaning.proofs.rules.more_depth_changes_nothing.Goals as goal
 

@@ -1,7 +1,9 @@
-use Rattle.std.proofs.Common.{◌≡◌, ◌+◌, ◌*◌, true, take}
+use Rattle.std.proofs.Common.{◌≡◌, ◌+◌, ◌*◌, All, length}
 use Rattle.std.specs.List.{list_all}
 use Rattle.xs_needs.specs.Found.{AreRight, KeepsFlags}
-use Rattle.xs_needs.specs.Rules.{is_clear_at, input_spot}
+use Rattle.xs_needs.specs.Shown.{is_clear_at}
+use Rattle.xs_step.specs.Spots.{input_spot}
+use Rattle.xs_step.specs.Ways.{WaysEnd}
 use Rattle.xs_needs.proofs.clear.+clear.Given as goal
 
 abbrev pub decreases-is_clear : goal.decreases-is_clear
@@ -19,6 +21,10 @@ invariant-are_clear-loop-terminal l =
       known : AreRight l.s l.known.flags.entries;
       kept : KeepsFlags l.fn.known l.known;
       clear :
-          list_all (λ t. is_clear_at l.s (input_spot l.spot.sheet t l.spot.row)) (take l.terminal-index l.terminals)
-          ≡ true;
+          list_all (λ t. is_clear_at l.s (input_spot l.spot.sheet t l.spot.row)) l.fn.terminals
+          ≡ list_all (λ t. is_clear_at l.s (input_spot l.spot.sheet t l.spot.row)) l.rest;
+      ends : All (λ t. WaysEnd l.s l.left (input_spot l.spot.sheet t l.spot.row)) l.rest;
     }
+
+abbrev pub decreases-are_clear-loop-terminal : goal.decreases-are_clear-loop-terminal
+decreases-are_clear-loop-terminal l = length l.rest

@@ -1,7 +1,9 @@
-use Rattle.std.proofs.Common.{◌≡◌, ◌≤◌, ◌+◌, ◌*◌, drop, length}
+use Rattle.std.proofs.Common.{◌≡◌, ◌+◌, ◌*◌, All, length}
 use Rattle.xs_needs.specs.Found.{IsKept, IsSound}
-use Rattle.xs_schematic.specs.Once.{with_each}
-use Rattle.xs_needs.specs.Rules.{drawings_over, shown, input_spot}
+use Rattle.xs_base.specs.Once.{with_each}
+use Rattle.xs_needs.specs.Shown.{drawings_over, shown}
+use Rattle.xs_step.specs.Spots.{input_spot}
+use Rattle.xs_step.specs.Ways.{WaysEnd}
 use Rattle.xs_needs.proofs.gather.+gather.Given as goal
 
 abbrev pub decreases-gather : goal.decreases-gather
@@ -19,17 +21,18 @@ decreases-gather_pair l = 4 * l.left + 3
 abbrev pub decreases-gather_over : goal.decreases-gather_over
 decreases-gather_over l = 4 * l.left + 2
 
-abbrev pub decreases-gather_over-loop-below : goal.decreases-gather_over-loop-below
-decreases-gather_over-loop-below l = l.below
+abbrev pub decreases-gather_over-loop-terminal : goal.decreases-gather_over-loop-terminal
+decreases-gather_over-loop-terminal l = length l.rest
 
-abbrev pub invariant-gather_over-loop-below : goal.invariant-gather_over-loop-below
-invariant-gather_over-loop-below l =
+abbrev pub invariant-gather_over-loop-terminal : goal.invariant-gather_over-loop-terminal
+invariant-gather_over-loop-terminal l =
     record {
-      inside : l.below ≤ length l.terminals;
       sound : IsSound l.s l.found;
       kept : IsKept l.fn.found l.found;
       drawings :
-          l.found.gathered.drawings.keys
-          ≡ with_each l.fn.found.gathered.drawings.keys
-          (drawings_over (λ t. shown l.s (input_spot l.spot.sheet t l.spot.row)) (drop l.below l.terminals));
+          with_each l.fn.found.gathered.drawings.keys
+          (drawings_over (λ t. shown l.s (input_spot l.spot.sheet t l.spot.row)) l.fn.terminals)
+          ≡ with_each l.found.gathered.drawings.keys
+          (drawings_over (λ t. shown l.s (input_spot l.spot.sheet t l.spot.row)) l.rest);
+      ends : All (λ t. WaysEnd l.s l.left (input_spot l.spot.sheet t l.spot.row)) l.rest;
     }

@@ -3,16 +3,17 @@ use Rattle.std.proofs.lemmas.List.Elements.{All-nil}
 use Rattle.std.proofs.lemmas.Result.{IfOk-weaker}
 use Rattle.xs_scene.specs.Records.{SceneRecord, SheetRecord}
 use Rattle.xs_meaning.specs.Palettes.{none_dropped}
-use Rattle.xs_meaning.specs.Points.{opposite}
-use Rattle.xs_meaning.specs.Rows.{camera_at}
+use Rattle.xs_pixel.specs.Points.{opposite}
+use Rattle.xs_meaning.specs.RowValues.{camera_at}
 use Rattle.xs_meaning.specs.Walk.{sheet_at, no_sheet}
 use Rattle.xs_meaning.proofs.Lists.{All-slice_index_or}
 use Rattle.xs_check.specs.Good.{IsGood, files_of}
-use Rattle.xs_needs.specs.declared.spot.At.TheVariants.{Row}
-use Rattle.xs_needs.specs.declared.spot.Spot.{Spot}
+use Rattle.xs_step.specs.declared.spot.At.TheVariants.{Row}
+use Rattle.xs_step.specs.declared.spot.Spot.{Spot}
+use Rattle.xs_step.specs.Spots.{spot}
 use Rattle.xs_needs.specs.Found.{AreRight, AreWhole}
-use Rattle.xs_schematic.specs.Once.{fresh, with_each}
-use Rattle.xs_needs.specs.Rules.{spot, drawings_at, is_clear_at}
+use Rattle.xs_base.specs.Once.{fresh, with_each}
+use Rattle.xs_needs.specs.Shown.{drawings_at, is_clear_at}
 use Rattle.xs_needs.proofs.needs.row_drawings.Goals as goal
 
 few_nodes : (s : SceneRecord) → IsGood s → (k : ℕ) → length (sheet_at s.sheets k).nodes ≤ 256
@@ -28,7 +29,7 @@ gather-requires c =
     record {
       all_end = good.ends;
       there = good.first_sheet;
-      ends = c.spots_tell_what_is_shown.ensures.ends s good.ends (few_nodes s good) 0 c.args.row;
+      ends = c.ways_end.ensures s good.ends (few_nodes s good) 0 c.args.row;
       sound =
           record {
             right = subst (AreRight s) (sym c.new.ensures) (All-nil (λ (e : Spot × Bool). e.1 ≡ is_clear_at s e.0));

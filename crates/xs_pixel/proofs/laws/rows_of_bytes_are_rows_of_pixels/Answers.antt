@@ -1,5 +1,5 @@
 use Rattle.std.proofs.Common.{◌*◌, refl}
-use Rattle.xs_pixel.proofs.Rows.{length-pixels, pixels-append, pixels-drop, pixels-chunk, pixels-put_chunk}
+use Rattle.xs_pixel.proofs.PixelRowLemmas.{length-pixels, pixels-append, pixels-drop, pixels-chunk, pixels-put_chunk}
 use Rattle.xs_pixel.proofs.laws.rows_of_bytes_are_rows_of_pixels.Goals as goal
 
 pub returns-clause-count : goal.returns-clause-count

@@ -1,6 +1,6 @@
 use Rattle.std.proofs.Common.{◌≡◌, ◌+◌, ◌-◌, ◌*◌, ◌/◌, length, ap, sym, ◌∙◌, arith}
 use Rattle.std.proofs.lemmas.Simd.{put_chunk_is}
-use Rattle.xs_pixel.specs.Rows.{pixels}
+use Rattle.xs_pixel.specs.PixelRows.{pixels}
 use Rattle.xs_raster.proofs.raster.put_pixels.Goals as goal
 
 pub returns : goal.returns

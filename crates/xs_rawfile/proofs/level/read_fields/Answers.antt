@@ -24,7 +24,19 @@ pub returns : goal.returns
 returns c =
     let x = to_z-of_z w32 c.cast_signed.result (record { sfits = c.cast_signed.type_inv }) in
     let y = to_z-of_z w32 c.cast_signed-2.result (record { sfits = c.cast_signed-2.type_inv }) in
-    rw (x, y, c.cast_signed.ensures, c.cast_signed-2.ensures, c.number_at.ensures, c.number_at-2.ensures, c.number_at-3.ensures, c.number_at-4.ensures, c.of.ensures, c.in_ok-pixels.ensures.items, c.pixel_bytes.ensures)
+    rw (
+      x,
+      y,
+      c.cast_signed.ensures,
+      c.cast_signed-2.ensures,
+      c.number_at.ensures,
+      c.number_at-2.ensures,
+      c.number_at-3.ensures,
+      c.number_at-4.ensures,
+      c.of.ensures,
+      c.in_ok-pixels.ensures.items,
+      c.pixel_bytes.ensures,
+    )
 
 pub invariant_of-result : goal.invariant_of-result
 invariant_of-result c =

@@ -1,6 +1,6 @@
 use Rattle.std.proofs.Common.{◌≡◌, ◌-◌, ◌*◌, ◌≤◌, length, drop}
 use Rattle.std.specs.List.{position_from}
-use Rattle.xs_pixel.specs.Rows.{pixels}
+use Rattle.xs_pixel.specs.PixelRows.{pixels}
 use Rattle.xs_rawfile.specs.Pixels.{exceeds}
 use Rattle.xs_rawfile.proofs.premultiplied.passed_by_blocks.Given as goal
 

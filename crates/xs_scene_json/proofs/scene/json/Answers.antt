@@ -1,5 +1,5 @@
 use Rattle.std.proofs.Common.{◌≡◌, [], None, refl}
-use Rattle.xs_json.specs.declared.code.SceneCode.TheVariants as code
+use Rattle.xs_fault.specs.declared.code.SceneCode.TheVariants as code
 use Rattle.xs_scene_text.specs.SceneText.{json_of}
 use Rattle.xs_scene_json.proofs.Texts.{json_of-some, json_of-none, fails_as_told}
 use Rattle.xs_scene_json.proofs.scene.json.Goals as goal

@@ -7,8 +7,7 @@ use Rattle.xs_scene_read.proofs.element.each.Given as goal
 abbrev pub invariant-loop-value : goal.invariant-loop-value
 invariant-loop-value g l = record {
   counted : length l.found.items ≡ l.value-index;
-  fits : All g.E.Element.fits l.found.items;
-  plain : l.format ≡ 1 → All g.E.Element.plain l.found.items;
-  reads : with_front l.found.items (each_at (g.E.Element.reading l.format) l.at (length l.found.items) (items_view (drop l.value-index l.values.items)))
-      ≡ each_at (g.E.Element.reading l.format) l.at 0 (items_view l.values.items);
+  kept : All (g.R.Reader.keeps l.reader) l.found.items;
+  reads : with_front l.found.items (each_at (g.R.Reader.says l.reader) l.at (length l.found.items) (items_view (drop l.value-index l.values.items)))
+      ≡ each_at (g.R.Reader.says l.reader) l.at 0 (items_view l.values.items);
 }

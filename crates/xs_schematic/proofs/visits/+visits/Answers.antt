@@ -1,7 +1,7 @@
 use Rattle.std.proofs.Common.{◌≡◌, ◌≤◌, ℕ, true, false, List, OnOk, sym, ap, subst, ◌∙◌, arith}
 use Rattle.std.specs.Option.{option_to_list}
-use Rattle.xs_meaning.specs.Palettes.{is_listed}
-use Rattle.xs_schematic.specs.Once.{with_one}
+use Rattle.xs_base.specs.Listed.{is_listed}
+use Rattle.xs_base.specs.Once.{with_one}
 use Rattle.xs_schematic.specs.Visits.{visit_node}
 use Rattle.xs_schematic.proofs.OrderLemmas.{visit_node-zero, visit_node-stands, visit_node-new}
 use Rattle.xs_schematic.proofs.visits.+visits.Goals as goal

@@ -10,7 +10,8 @@ line : (c : goal.After-div_euclid) →
     (c.args.from +ℤ c.div_euclid.result ≡ on_line c.args.from c.args.to c.args.done c.args.whole)
     × IsOffset (c.args.from +ℤ c.div_euclid.result)
 line c =
-    let is = line_is c.args.from c.args.to c.div_euclid.result c.args.done c.args.whole c.requires.start c.requires.end c.requires.rows c.requires.few c.div_euclid.ensures in (
+    let is = line_is c.args.from c.args.to c.div_euclid.result c.args.done c.args.whole c.requires.start c.requires.end c.requires.rows
+    c.requires.few c.div_euclid.ensures in (
       is,
       subst IsOffset (sym is)
           (between-offset c.args.from c.args.to _ c.requires.start c.requires.end

@@ -19,10 +19,12 @@ loop-key-preserved c =
     let best = c.loop-key.best in
     elim c.if-key-row.branch [
       | then-key-row w ↦
-          taken (latest (λ k. k.row)) (newest (λ k. k.row)) (latest-push (λ k. k.row)) (λ k. leb k.row row) P keys i c.key-item.result key within c.key-item.is c.key.view_is
+          taken (latest (λ k. k.row)) (newest (λ k. k.row)) (latest-push (λ k. k.row))
+          (λ k. leb k.row row) P keys i c.key-item.result key within c.key-item.is c.key.view_is
           best c.if-key-row.best c.loop-key.invariant (le-leb key.row row w.if-key-row.true)
           (newest-has (λ k. k.row) P best key c.loop-key.invariant.1 (c.key.invariant, w.if-key-row.true)) (w.best-is ∙ ap Some w.later.ensures)
       | else-key-row w ↦
-          passed (latest (λ k. k.row)) (newest (λ k. k.row)) (latest-push (λ k. k.row)) (λ k. leb k.row row) P keys i c.key-item.result key within c.key-item.is c.key.view_is
+          passed (latest (λ k. k.row)) (newest (λ k. k.row)) (latest-push (λ k. k.row))
+          (λ k. leb k.row row) P keys i c.key-item.result key within c.key-item.is c.key.view_is
           best c.if-key-row.best c.loop-key.invariant (lt-leb key.row row w.if-key-row.false) w.best-is
     ]

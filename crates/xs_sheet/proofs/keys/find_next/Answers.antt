@@ -19,10 +19,12 @@ loop-key-preserved c =
     let best = c.loop-key.best in
     elim c.if-row-key.branch [
       | then-row-key w ↦
-          taken (earliest (λ k. k.row)) (nearest (λ k. k.row)) (earliest-push (λ k. k.row)) (λ k. ltb row k.row) P keys i c.key-item.result key within c.key-item.is c.key.view_is
+          taken (earliest (λ k. k.row)) (nearest (λ k. k.row)) (earliest-push (λ k. k.row))
+          (λ k. ltb row k.row) P keys i c.key-item.result key within c.key-item.is c.key.view_is
           best c.if-row-key.best c.loop-key.invariant (lt-ltb row key.row w.if-row-key.true)
           (nearest-has (λ k. k.row) P best key c.loop-key.invariant.1 (c.key.invariant, w.if-row-key.true)) (w.best-is ∙ ap Some w.earlier.ensures)
       | else-row-key w ↦
-          passed (earliest (λ k. k.row)) (nearest (λ k. k.row)) (earliest-push (λ k. k.row)) (λ k. ltb row k.row) P keys i c.key-item.result key within c.key-item.is c.key.view_is
+          passed (earliest (λ k. k.row)) (nearest (λ k. k.row)) (earliest-push (λ k. k.row))
+          (λ k. ltb row k.row) P keys i c.key-item.result key within c.key-item.is c.key.view_is
           best c.if-row-key.best c.loop-key.invariant (le-ltb row key.row w.if-row-key.false) w.best-is
     ]

@@ -1,7 +1,7 @@
 use Rattle.std.proofs.Common.{ap, ◌∙◌}
 use Rattle.xs_scene.specs.Records.{PegRecord}
 use Rattle.xs_meaning.specs.Places.{own_offset}
-use Rattle.xs_meaning.specs.Points.{point}
+use Rattle.xs_pixel.specs.Points.{point}
 use Rattle.xs_sheet.proofs.Offsets.{own_offset-none, own_offset-some}
 use Rattle.xs_sheet.proofs.keys.own_offset.Goals as goal
 

@@ -1,4 +1,4 @@
 use Rattle.xs_sheet.proofs.pegs.+place_up.Given as goal
 
 abbrev pub decreases-place_up : goal.decreases-place_up
-decreases-place_up l = l.most
+decreases-place_up g l = l.most

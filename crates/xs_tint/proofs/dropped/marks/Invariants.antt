@@ -1,5 +1,5 @@
 use Rattle.std.proofs.Common.{◌≡◌, ℕ, ◌<◌, false, length, take, get_or}
-use Rattle.xs_meaning.specs.Palettes.{is_listed}
+use Rattle.xs_base.specs.Listed.{is_listed}
 use Rattle.xs_tint.proofs.dropped.marks.Given as goal
 
 abbrev pub invariant-loop-style : goal.invariant-loop-style

@@ -12,7 +12,9 @@ returns-in-Ok c =
     let f = dropped_by c.args.f.now in
     let styles = c.clear_dropped.new.styles.items in
     let shown : style_of (written styles) ≡ style_at colours c.args.row f =
-    style_of-shown colours c.args.row f styles (λ style. c.palette_keys_are_chosen_by_row.ensures.lacking colours c.args.row style f) (c.clear_dropped.ensures.len ∙ c.in_ok-styles.ensures.len)
+    style_of-shown colours c.args.row f styles
+    (λ style. c.palette_keys_are_chosen_by_row.ensures.lacking colours c.args.row style f)
+    (c.clear_dropped.ensures.len ∙ c.in_ok-styles.ensures.len)
     (λ k d inside.
     c.clear_dropped.ensures.styles k d (omega (arith, c.in_ok-styles.ensures.len))
     ∙ ap (cond (f k) NO_COLOUR) (c.in_ok-styles.ensures.styles k d inside))

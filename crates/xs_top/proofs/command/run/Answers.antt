@@ -1,9 +1,9 @@
 use Rattle.std.proofs.Common.{Option}
-use Rattle.xs_json.specs.declared.fault.SceneFault.{SceneFault}
+use Rattle.xs_fault.specs.declared.fault.SceneFault.{SceneFault}
 use Rattle.xs_scene.specs.Records.{SceneRecord}
 use Rattle.xs_check.specs.Passes.{Checking}
 use Rattle.xs_top.specs.declared.status.Status.TheVariants as answers
-use Rattle.xs_top.specs.Told.{Files, Verdict, IsVerdict}
+use Rattle.xs_top.specs.Files.{Files, Verdict, IsVerdict}
 use Rattle.xs_top.proofs.Listings.{TakenOnce}
 use Rattle.xs_top.proofs.Wholes.{stopped_run}
 use Rattle.xs_top.proofs.Rendering.{run_rendered, run_frames}

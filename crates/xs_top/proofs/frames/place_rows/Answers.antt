@@ -2,7 +2,7 @@ use Rattle.std.proofs.Common.{◌≡◌, ◌+◌, ◌-◌, ◌<◌, ◌≤◌, �
 use Rattle.std.specs.List.{range_with_len}
 use Rattle.std.proofs.lemmas.Result.{err_from_is_err_and}
 use Rattle.xs_scene.specs.Records.{SceneRecord}
-use Rattle.xs_meaning.specs.Drawings.{Pictures}
+use Rattle.xs_pixel.specs.Picture.{Pictures}
 use Rattle.xs_top.specs.Trace.{Outcome}
 use Rattle.xs_top.specs.Outcome.{placing_rows}
 use Rattle.xs_top.proofs.Parts.{did_nothing, did_to, did_then, stopped_then}

@@ -1,10 +1,10 @@
 use Rattle.std.proofs.Common.{◌≡◌, ◌≤◌, ◌+◌, ◌-◌, Some}
 use Rattle.std.specs.List.{range_with_len}
 use Rattle.xs_direct.specs.Pictures.{AreHeld}
-use Rattle.xs_meaning.specs.Drawings.{Pictures, ArePixels}
+use Rattle.xs_pixel.specs.Picture.{Pictures, ArePixels}
 use Rattle.xs_top.specs.Trace.{Outcome, Contents, with_shelf}
 use Rattle.xs_top.specs.Runs.{Did}
-use Rattle.xs_top.specs.Levels.{needed}
+use Rattle.xs_meaning.specs.Expressions.{needed}
 use Rattle.xs_top.specs.Outcome.{placing_rows}
 use Rattle.xs_top.proofs.frames.place_rows.Given as goal
 

@@ -1,8 +1,8 @@
 use Rattle.std.proofs.Common.{◌≡◌, ◌≤◌, ℕ, List, ◌++◌, take, drop, Some}
-use Rattle.xs_schematic.specs.Once.{fresh}
+use Rattle.xs_base.specs.Once.{fresh}
 use Rattle.xs_top.specs.Trace.{Outcome, Contents, with_asked}
 use Rattle.xs_top.specs.Runs.{Did}
-use Rattle.xs_top.specs.Told.{Files}
+use Rattle.xs_top.specs.Files.{Files}
 use Rattle.xs_top.specs.Levels.{HasRoom, Holds}
 use Rattle.xs_top.specs.Outcome.{loading}
 use Rattle.xs_top.proofs.levels.load_drawings.Given as goal

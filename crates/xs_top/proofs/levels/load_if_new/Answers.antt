@@ -1,6 +1,6 @@
 use Rattle.std.proofs.Common.{◌≡◌, ◌∙◌, sym, true, false}
 use Rattle.std.proofs.lemmas.Result.{err_from_is_err_and}
-use Rattle.xs_meaning.specs.Palettes.{is_listed}
+use Rattle.xs_base.specs.Listed.{is_listed}
 use Rattle.xs_top.proofs.Parts.{did_nothing}
 use Rattle.xs_top.proofs.Drawn.{known_from_held, loading_known, loading_new}
 use Rattle.xs_top.proofs.levels.load_if_new.Goals as goal

@@ -2,12 +2,12 @@ use Rattle.std.proofs.Common.{◌≡◌, ◌∙◌, ◌+◌, ◌-◌, ◌<◌, �
 use Rattle.std.specs.List.{range_with_len}
 use Rattle.std.proofs.lemmas.List.{append-nil}
 use Rattle.std.proofs.lemmas.Result.{err_from_is_err_and}
-use Rattle.xs_schematic.specs.Once.{fresh}
+use Rattle.xs_base.specs.Once.{fresh}
 use Rattle.xs_scene.specs.Records.{SceneRecord}
 use Rattle.xs_top.specs.Trace.{Outcome}
-use Rattle.xs_top.specs.Told.{Files}
+use Rattle.xs_top.specs.Files.{Files}
 use Rattle.xs_top.specs.Outcome.{loading}
-use Rattle.xs_top.specs.Levels.{needed}
+use Rattle.xs_meaning.specs.Expressions.{needed}
 use Rattle.xs_top.proofs.Parts.{did_nothing, did_to, did_then, stopped_then}
 use Rattle.xs_top.proofs.Drawn.{loading_row, loading_over, holds_row, holds_rows}
 use Rattle.xs_top.proofs.levels.load_rows.Goals as goal

@@ -2,7 +2,8 @@ use Rattle.std.proofs.Common.{◌≡◌, ◌∙◌, ap, Some}
 use Rattle.std.specs.List.{range_with_len}
 use Rattle.std.proofs.lemmas.Result.{err_from_is_err_and}
 use Rattle.xs_top.specs.Trace.{Contents, with_asked, with_shelf}
-use Rattle.xs_top.specs.Levels.{film_of, needed, pictures_of}
+use Rattle.xs_top.specs.Levels.{film_of, pictures_of}
+use Rattle.xs_meaning.specs.Expressions.{needed}
 use Rattle.xs_top.specs.Outcome.{placing_rows}
 use Rattle.xs_top.proofs.Parts.{did_then, stopped_then}
 use Rattle.xs_top.proofs.Sections.{section_is, pictures_hold, listed_held}

@@ -3,8 +3,8 @@ use Rattle.std.specs.List.{range_with_len}
 use Rattle.std.proofs.lemmas.Result.{err_from_is_err_and}
 use Rattle.xs_scene.specs.Records.{SceneRecord}
 use Rattle.xs_top.specs.Trace.{Outcome}
-use Rattle.xs_top.specs.Told.{Files}
-use Rattle.xs_top.specs.Rows.{section_rows, sections_in, rows_before}
+use Rattle.xs_top.specs.Files.{Files}
+use Rattle.xs_base.specs.Sections.{section_rows, sections_in, rows_before}
 use Rattle.xs_top.specs.Outcome.{rendering_sections}
 use Rattle.xs_top.proofs.Parts.{did_nothing, did_to, did_then, stopped_then}
 use Rattle.xs_top.proofs.Sections.{sections_are, section_step, sections_over, rows_before_more}

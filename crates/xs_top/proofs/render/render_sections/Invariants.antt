@@ -2,9 +2,10 @@ use Rattle.std.proofs.Common.{◌≡◌, ◌≤◌, ◌+◌, ◌-◌, [], map, S
 use Rattle.std.specs.List.{range_with_len}
 use Rattle.xs_top.specs.Trace.{Outcome, Contents, with_asked, with_shelf}
 use Rattle.xs_top.specs.Runs.{Did}
-use Rattle.xs_top.specs.Told.{Files}
-use Rattle.xs_top.specs.Levels.{HasRoom, Holds, needed}
-use Rattle.xs_top.specs.Rows.{section_rows, sections_of, rows_before}
+use Rattle.xs_top.specs.Files.{Files}
+use Rattle.xs_top.specs.Levels.{HasRoom, Holds}
+use Rattle.xs_meaning.specs.Expressions.{needed}
+use Rattle.xs_base.specs.Sections.{section_rows, sections_of, rows_before}
 use Rattle.xs_top.specs.Outcome.{rendering_sections}
 use Rattle.xs_top.proofs.render.render_sections.Given as goal
 

@@ -3,7 +3,7 @@ use Rattle.std.proofs.lemmas.Result.{err_from_is_err_and}
 use Rattle.xs_scene.specs.Records.{SceneRecord}
 use Rattle.xs_scene_json.specs.SceneText.{scene_of}
 use Rattle.xs_top.specs.Trace.{Outcome}
-use Rattle.xs_top.specs.Told.{Verdict}
+use Rattle.xs_top.specs.Files.{Verdict}
 use Rattle.xs_top.specs.Outcome.{decoded}
 use Rattle.xs_top.proofs.Parts.{stopped_then, did_then}
 use Rattle.xs_top.proofs.Verdicts.{scene_asked}

@@ -1,6 +1,6 @@
 use Rattle.std.proofs.Common.{◌≡◌, ◌*◌, [], ◌∷◌, get_or, refl}
 use Rattle.std.specs.Simd.Lanes.{chunk}
-use Rattle.xs_cm32.specs.Rows.{words}
+use Rattle.xs_cm32.specs.WordRows.{words}
 use Rattle.xs_cm32.proofs.WordRows.{word_of_chunk}
 use Rattle.xs_cm32.proofs.word.Cm32.from_row.Goals as goal
 

@@ -1,8 +1,8 @@
 use Rattle.std.proofs.Common.{ap, ◌∙◌}
-use Rattle.xs_pixel.specs.Rows.{pixels}
+use Rattle.xs_pixel.specs.PixelRows.{pixels}
 use Rattle.xs_pixel.specs.Operations.{product}
 use Rattle.xs_lanes.proofs.Blocks.{pixels-zip2}
 use Rattle.xs_lanes.proofs.operations.MultKernel.block.Goals as goal
 
 pub returns-clause-value : goal.returns-clause-value
-returns-clause-value c = ap pixels c.products.ensures.value ∙ pixels-zip2 product 4 c.args.u c.args.d c.fits-u.0
+returns-clause-value c = ap pixels c.products.ensures.value ∙ pixels-zip2 product 4 c.args.u c.args.d c.fits-u.0 c.fits-d.0

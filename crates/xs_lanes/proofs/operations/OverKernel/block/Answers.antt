@@ -1,7 +1,7 @@
 use Rattle.std.proofs.Common.{◌+◌, ◌-◌, ◌%◌, map, ap, ◌∙◌}
 use Rattle.std.specs.Simd.Lanes.{zip2}
 use Rattle.xs_pixel.specs.Operations.{product}
-use Rattle.xs_pixel.specs.Rows.{pixels}
+use Rattle.xs_pixel.specs.PixelRows.{pixels}
 use Rattle.xs_lanes.proofs.Blocks.{over_block, over_clear, over_opaque}
 use Rattle.xs_lanes.proofs.operations.OverKernel.block.Goals as goal
 
@@ -19,4 +19,5 @@ pub returns-clause-value : goal.returns-clause-value
 returns-clause-value c =
     let rest = c.complements.ensures.value ∙ ap (map (λ a. 255 - a)) c.mattes-matte.ensures.value in
     let shown = c.products.ensures.value ∙ ap (zip2 product c.args.d) rest in
-    ap pixels (c.sums.ensures.value ∙ ap (zip2 (λ a b. (a + b) % 256) c.args.u) shown) ∙ over_block 4 c.args.u c.args.d c.fits-u.0 c.requires.first c.requires.second
+    ap pixels (c.sums.ensures.value ∙ ap (zip2 (λ a b. (a + b) % 256) c.args.u) shown)
+    ∙ over_block 4 c.args.u c.args.d c.fits-u.0 c.fits-d.0 c.requires.first c.requires.second

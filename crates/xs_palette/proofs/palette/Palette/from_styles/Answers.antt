@@ -9,7 +9,9 @@ pub loop-id-preserved : goal.loop-id-preserved
 loop-id-preserved c =
     let four : length c.to_bytes.result ≡ 4 = omega arith in
     rw c.in_ok-extend_from_slice.ensures.items
-    (shows_more _ _ _ c.to_bytes.result c.shown.result c.loop-id.invariant (c.rows_of_bytes_are_rows_of_pixels.ensures.joined _ _ _ c.loop-id.invariant.count) four c.to_bytes.ensures.bytes c.shown.ensures c.to_bytes.ensures.valid)
+    (shows_more _ _ _ c.to_bytes.result c.shown.result c.loop-id.invariant
+    (c.rows_of_bytes_are_rows_of_pixels.ensures.joined _ _ _ c.loop-id.invariant.count) four c.to_bytes.ensures.bytes
+    c.shown.ensures c.to_bytes.ensures.valid)
 
 pub invariant_of-result : goal.invariant_of-result
 invariant_of-result c =

@@ -1,5 +1,5 @@
 use Rattle.std.proofs.Common.{◌∙◌}
-use Rattle.xs_pixel.specs.Rows.{pixels}
+use Rattle.xs_pixel.specs.PixelRows.{pixels}
 use Rattle.xs_palette.proofs.LookUp.{look_up}
 use Rattle.xs_palette.proofs.palette.Palette.style.Goals as goal
 

@@ -1,8 +1,8 @@
 use Rattle.std.proofs.Common.{◌≡◌, ◌*◌, [], ◌∷◌, get_or, refl}
 use Rattle.std.specs.Simd.Lanes.{chunk}
 use Rattle.xs_pixel.specs.Channels.{IsPixel, clear}
-use Rattle.xs_pixel.specs.Rows.{pixels}
-use Rattle.xs_pixel.proofs.Rows.{pixel_of_chunk, chunk_of_pixels}
+use Rattle.xs_pixel.specs.PixelRows.{pixels}
+use Rattle.xs_pixel.proofs.PixelRowLemmas.{pixel_of_chunk, chunk_of_pixels}
 use Rattle.xs_pixel.proofs.pixel.Pixel.from_row.Goals as goal
 
 pub from_bytes-requires : goal.from_bytes-requires

@@ -8,4 +8,5 @@ returns-clause-exact c =
 
 pub returns-clause-whole : goal.returns-clause-whole
 returns-clause-whole c =
-    rw (c.as_slice.ensures.value, ← c.self.view_is) (c.self.invariant.whole ∙ ap (λ (n : ℕ). 4 * n) (sym (c.rows_of_bytes_are_rows_of_pixels.ensures.count _ _ c.self.invariant.whole)))
+    rw (c.as_slice.ensures.value, ← c.self.view_is)
+    (c.self.invariant.whole ∙ ap (λ (n : ℕ). 4 * n) (sym (c.rows_of_bytes_are_rows_of_pixels.ensures.count _ _ c.self.invariant.whole)))

@@ -23,4 +23,7 @@ returns-clause-common c =
 pub returns-clause-within : goal.returns-clause-within
 returns-clause-within c =
     let px = c.in_ok-x.ensures.within in let py = c.in_ok-y.ensures.within in
-    rw (← c.self.view_is, ← c.o.view_is) (record { across = (omega (arith, ints), omega (arith, ints)); up = (omega (arith, ints), omega (arith, ints)) }, record { across = (omega (arith, ints), omega (arith, ints)); up = (omega (arith, ints), omega (arith, ints)) })
+    rw (← c.self.view_is, ← c.o.view_is) (
+      record { across = (omega (arith, ints), omega (arith, ints)); up = (omega (arith, ints), omega (arith, ints)) },
+      record { across = (omega (arith, ints), omega (arith, ints)); up = (omega (arith, ints), omega (arith, ints)) },
+    )

@@ -1,5 +1,5 @@
 use Rattle.std.proofs.Common.{◌≡◌, ap, length, arith, ◌∙◌}
-use Rattle.xs_meaning.specs.Palettes.{is_listed}
+use Rattle.xs_base.specs.Listed.{is_listed}
 use Rattle.xs_tint.specs.Filters.{dropped_by, filtering}
 use Rattle.xs_tint.proofs.Marks.{filtering-by_flags}
 use Rattle.xs_tint.proofs.dropped.Dropped.with.Goals as goal

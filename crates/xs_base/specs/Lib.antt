@@ -1,0 +1,4 @@
+pub mod Listed
+pub mod Once
+pub mod First
+pub mod Sections

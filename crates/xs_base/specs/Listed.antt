@@ -1,0 +1,6 @@
+use Rattle.std.specs.Prelude.{ℕ, ◌==◌, Bool, List}
+use Rattle.std.specs.List.{list_any}
+
+-- whether a number is among those of a list
+abbrev pub is_listed : List ℕ → ℕ → Bool
+is_listed numbers number = list_any (λ listed. listed == number) numbers

@@ -1,7 +1,0 @@
-use Rattle.xs_check.proofs.Neighbours.{apart_by_order}
-use Rattle.xs_check.proofs.apart.are_apart.Goals as goal
-
-pub returns : goal.returns
-returns g c =
-    apart_by_order g.T.HasRow.group_of g.T.HasRow.row_of g.T.Apart.last_of g.T.Apart.apart g.met.T.Apart.told c.args.items.now c.items.result.now
-    c.each_ends_before.result (rw c.items.ensures c.in_ok-sorted.ensures) c.each_ends_before.ensures

@@ -1,4 +1,0 @@
-use Rattle.xs_check.proofs.good.GoodScene.+place_up.Given as goal
-
-abbrev pub decreases-place_up : goal.decreases-place_up
-decreases-place_up l = l.most

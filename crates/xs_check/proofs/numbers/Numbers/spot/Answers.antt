@@ -1,7 +1,0 @@
-use Rattle.xs_check.proofs.Numbering.{spot}
-use Rattle.xs_check.proofs.numbers.Numbers.spot.Goals as goal
-
-pub returns : goal.returns
-returns c =
-    (spot c.args.levels.now c.args.self.now.firsts.items c.args.self.now.owners.items c.args.d c.index.result.now c.index-2.result.now c.index-levels-owner.result
-    c.requires.numbering c.requires.below c.index.ensures c.index-2.ensures c.index-levels-owner.is).3

@@ -1,9 +1,0 @@
-use Rattle.std.proofs.Common.{◌≡◌, ◌++◌}
-use Rattle.xs_raster.specs.Bitmap.{bytes_of}
-use Rattle.xs_direct.specs.Frames.{frame_line}
-use Rattle.xs_direct.specs.Pictures.{pictures_in}
-use Rattle.xs_direct.proofs.frame.push_line.Given as goal
-
-abbrev pub invariant-loop-x : goal.invariant-loop-x
-invariant-loop-x g l =
-    l.bytes.items ≡ l.initial.bytes.items ++ bytes_of (frame_line l.s (pictures_in l.drawings) l.row l.y l.x)

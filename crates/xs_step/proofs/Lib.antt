@@ -1,0 +1,3 @@
+pub mod Readings
+pub mod Ways
+pub mod Columns
