@@ -4,6 +4,10 @@
 #![tactic(auto)]
 
 #[cfg(test)]
+mod alias;
+#[cfg(test)]
+mod chain;
+#[cfg(test)]
 mod cm32;
 #[cfg(test)]
 mod direct;

@@ -1,0 +1,5 @@
+pub mod Lists
+pub mod Rings
+pub mod Held
+pub mod Changed
+pub mod Kept
