@@ -1,6 +1,6 @@
 ghost use Rattle.std.specs.Prelude.{◌≡◌, ◌<◌, ◌≤◌, ◌+◌, ◌^◌, [], Some, IfOk, OnErr, List, length, slice_get, if◌then◌else◌};
 ghost use Rattle.xs_pixel.specs.Channels.{Channels};
-ghost use Rattle.xs_meaning.specs.Expressions.{Clear, First, Second, Neither, is_clear, pair_of, blur_of, with_clear_first, with_clear_second};
+ghost use Rattle.xs_meaning.specs.Expressions.{Clear, is_clear, pair_of, blur_of};
 ghost use Rattle.xs_alias.specs.Meanings.{meaning, meanings, stands_for};
 ghost use Rattle.xs_alias.specs.Numbers.{IsOver, IsNumbering, Numbers, IsGiven};
 
@@ -9,6 +9,7 @@ use indexmap::IndexSet;
 use std::alloc::Global;
 use std::marker::Model;
 use xs_base::Memory;
+use xs_meaning::pairs::{first_stays_alone, second_stays_alone};
 use xs_pixel::Op;
 
 /// Keys, each with a number, from 0. Contracts see it as the list of the keys by their numbers.
@@ -137,25 +138,5 @@ impl Interner {
         } else {
             self.intern(Key::Clear)
         }
-    }
-}
-
-/// Whether the second input of a pair stays where the first is clear.
-fn second_stays_alone(op: Op) -> bool
-    ensures { with_clear_first op ≡ (if result then Second else Neither) }
-{
-    match op {
-        Op::Over | Op::Add | Op::Sub | Op::Max => true,
-        Op::Mult | Op::Min | Op::MatteIn | Op::MatteOut => false,
-    }
-}
-
-/// Whether the first input of a pair stays where only the second is clear.
-fn first_stays_alone(op: Op) -> bool
-    ensures { with_clear_second op ≡ (if result then First else Neither) }
-{
-    match op {
-        Op::Over | Op::Add | Op::Max | Op::MatteOut => true,
-        Op::Sub | Op::Mult | Op::Min | Op::MatteIn => false,
     }
 }

@@ -5,6 +5,8 @@
 mod interner;
 mod key;
 pub mod laws;
+mod line;
 
 pub use interner::Interner;
 pub use key::Key;
+pub use line::alias_text;

@@ -1,4 +1,4 @@
-use Rattle.std.proofs.Common.{◌≡◌, ◌<◌, ◌≤◌, ◌+◌, ℕ, suc, true, false, List, [], ◌∷◌, Option, Some, None, Result, Ok, Err, inl, inr, length, drop, get_or, is_err, refl, sym, subst, arith, option_map}
+use Rattle.std.proofs.Common.{◌≡◌, ◌<◌, ◌+◌, ℕ, zero, suc, Bool, true, false, List, [], ◌∷◌, Option, Some, None, Result, Ok, Err, Decides, length, drop, get_or, is_err, refl, sym, ◌∙◌, ap, subst, arith, option_map}
 use Rattle.std.proofs.Math.Seq.{drop-cons}
 use Rattle.std.proofs.Math.Numerals.{add-one}
 use Rattle.xs_fault.specs.declared.fault.SceneFault.{SceneFault}
@@ -6,93 +6,85 @@ use Rattle.xs_fault.specs.declared.fault.FieldFault.{FieldFault}
 use Rattle.xs_fault.specs.declared.fault.FieldFault.TheVariants as errors
 use Rattle.xs_fault.specs.declared.code.SceneCode.{SceneCode}
 use Rattle.xs_fault.specs.Paths.{index_at}
-use Rattle.std.proofs.lemmas.Bool.{cases_lt}
-use Rattle.xs_check.specs.Finding.{Finding, Finds, Unless, Then, Each, IsFaultAtFirst}
 use Rattle.xs_base.specs.First.{IsFirstWithout}
-
--- what one check finds, another one finds
-pub record Covers (F G : Finding) : Type 0 where
-  pub at : (found : Option SceneFault) → F found → G found
-
-then_second : (F G : Finding) (found : Option SceneFault) → F None → G found → Then F G found
-then_second F G None passed h = (passed, h)
-then_second F G (Some fault) passed h = inr (passed, h)
+use Rattle.xs_check.specs.Finding.{Finding, Finds, unless, or_else, each_from, IsFaultAtFirst}
 
 drop_at : {A : Type 0} (xs : List A) (i : ℕ) (x : A) → i < length xs → x ≡ get_or xs i x → drop i xs ≡ x ∷ drop (i + 1) xs
 drop_at xs i x below is = rw (add-one i, drop-cons xs i x, ← is) refl
 
 module _ {A : Type 0} (F : ℕ → A → Finding) (xs : List A) (i : ℕ) (x : A) (G : Finding) (below : i < length xs) (is : x ≡ get_or xs i x) where
+  here_first : each_from F i (drop i xs) ≡ or_else (F i x) (each_from F (i + 1) (drop (i + 1) xs))
+  here_first = ap (λ (l : List A). each_from F i l) (drop_at xs i x below is)
+
   -- where an element is faultless, the elements from it on find what those after it find
-  pub each_passed : F i x None → Covers (Each F i (drop i xs)) G → Covers (Each F (i + 1) (drop (i + 1) xs)) G
-  each_passed passed covers =
-      record {
-        at =
-            λ found h.
-            covers.at found
-            (subst (λ (l : List A). Each F i l found) (sym (drop_at xs i x below is))
-            (then_second (F i x) (Each F (i + 1) (drop (i + 1) xs)) found passed h));
-      }
+  pub each_passed : F i x ≡ None → each_from F i (drop i xs) ≡ G → each_from F (i + 1) (drop (i + 1) xs) ≡ G
+  each_passed passed finds =
+      sym (ap (λ (f : Finding). or_else f (each_from F (i + 1) (drop (i + 1) xs))) passed) ∙ sym here_first ∙ finds
 
   -- the first fault of the elements from one on is its own fault
-  pub each_failed : (r : Result (Unit {0}) FieldFault) → is_err r ≡ true → Finds r (F i x) → Covers (Each F i (drop i xs)) G → Finds r G
-  each_failed (Ok u) fails failed covers = absurd (cc)
-  each_failed (Err errors.Memory) fails failed covers = tt
-  each_failed (Err (errors.Fault fault)) fails failed covers =
-      covers.at (Some fault)
-      (subst (λ (l : List A). Each F i l (Some fault)) (sym (drop_at xs i x below is)) (inl failed))
+  pub each_failed : (r : Result (Unit {0}) FieldFault) → is_err r ≡ true → Finds r (F i x) → each_from F i (drop i xs) ≡ G → Finds r G
+  each_failed (Ok u) fails failed finds = absurd (cc)
+  each_failed (Err errors.Memory) fails failed finds = tt
+  each_failed (Err (errors.Fault fault)) fails failed finds =
+      sym finds ∙ here_first ∙ ap (λ (f : Finding). or_else f (each_from F (i + 1) (drop (i + 1) xs))) failed
 
 -- a check that didn't fail finds nothing
-pub finds_none : (F : Finding) (r : Result (Unit {0}) FieldFault) → is_err r ≡ false → Finds r F → F None
+pub finds_none : (F : Finding) (r : Result (Unit {0}) FieldFault) → is_err r ≡ false → Finds r F → F ≡ None
 finds_none F (Ok u) passed h = h
 finds_none F (Err e) passed h = absurd (cc)
 
 -- ---- the first of some elements
 
-module _ {A : Type 0} (P : ℕ → Type 0) (code : SceneCode) (path : ℕ → List ℕ) where
-  none_found : (xs : List A) (k : ℕ) → ((i : ℕ) → k ≤ i → i < k + length xs → P i)
-      → Each (λ i x. Unless code (path i) (P i)) k xs None
-  none_found [] k h = refl
-  none_found (x ∷ xs) k h = (h k (omega arith) (omega arith), none_found xs (k + 1) (λ i low high. h i (omega arith) (omega arith)))
+module _ {A : Type 0} (F : ℕ → A → Finding) where
+  pub each_none : (xs : List A) (k : ℕ) → ((n i : ℕ) (d : A) → n ≡ k + i → i < length xs → F n (get_or xs i d) ≡ None) → each_from F k xs ≡ None
+  each_none [] k none = refl
+  each_none (x ∷ xs) k none =
+      ap (λ (f : Finding). or_else f (each_from F (k + 1) xs)) (none k 0 x (omega arith) (omega arith))
+      ∙ each_none xs (k + 1) (λ n i d is below. none n (suc i) d (omega arith) (omega arith))
 
-  one_found : (xs : List A) (k i : ℕ) → k ≤ i → i < k + length xs → (P i → ⊥) → ((j : ℕ) → k ≤ j → j < i → P j)
-      → Each (λ i x. Unless code (path i) (P i)) k xs (Some (record { code = code; path = path i }))
-  one_found [] k i low high bad before = absurd (omega arith)
-  one_found (x ∷ xs) k i low high bad before =
-      elim (cases_lt k i) [
-        | inl less ↦ inr (before k (omega arith) less, one_found xs (k + 1) i (omega arith) (omega arith) bad (λ j from to. before j (omega arith) to))
-        | inr most ↦
-            let same : i ≡ k = omega arith in
-            inl
-            (subst (λ (n : ℕ). Unless code (path k) (P k) (Some (record { code = code; path = path n }))) (sym same)
-            ((λ p. bad (subst (λ (n : ℕ). P n) (sym same) p)), refl))
-      ]
+  pub each_some : (xs : List A) (k m j : ℕ) (fault : SceneFault) → m ≡ k + j → j < length xs → ((d : A) → F m (get_or xs j d) ≡ Some fault)
+      → ((n i : ℕ) (d : A) → n ≡ k + i → i < j → F n (get_or xs i d) ≡ None) → each_from F k xs ≡ Some fault
+  each_some [] k m j fault at below here before = absurd (omega arith)
+  each_some (x ∷ xs) k m zero fault at below here before =
+      let same : m ≡ k = omega arith in
+      ap (λ (f : Finding). or_else f (each_from F (k + 1) xs)) (subst (λ (n : ℕ). F n x ≡ Some fault) same (here x))
+  each_some (x ∷ xs) k m (suc j) fault at below here before =
+      ap (λ (f : Finding). or_else f (each_from F (k + 1) xs)) (before k 0 x (omega arith) (omega arith))
+      ∙ each_some xs (k + 1) m j fault (omega arith) (omega arith) here (λ n i d is early. before n (suc i) d (omega arith) (omega arith))
 
-  pub first_found : (xs : List A) (first : Option ℕ) → IsFirstWithout P (length xs) first → (found : Option SceneFault)
-      → found ≡ option_map (λ i. record { code = code; path = path i }) first
-      → Each (λ i x. Unless code (path i) (P i)) 0 xs found
-  first_found xs None h found is = rw is (none_found xs 0 (λ i low high. h i (omega arith)))
-  first_found xs (Some i) (below, bad, before) found is =
-      rw is (one_found xs 0 i (omega arith) (omega arith) bad (λ j low early. before j early))
+-- ---- tests of the elements
 
--- the fault at the first element without P, if there is one
-pub first_told : {A : Type 0} (P : ℕ → Type 0) (code : SceneCode) (at : List ℕ) (xs : List A) (first : Option ℕ) (r : Result (Unit {0}) FieldFault)
-    → IsFirstWithout P (length xs) first → IsFaultAtFirst code at first r → Finds r (Each (λ i x. Unless code (index_at at i) (P i)) 0 xs)
-first_told P code at xs first (Ok u) h told = first_found P code (index_at at) xs first h None (rw told refl)
-first_told P code at xs first (Err errors.Memory) h told = tt
-first_told P code at xs first (Err (errors.Fault fault)) h (i, is, fault_is) = first_found P code (index_at at) xs first h (Some fault) (rw (is, fault_is) refl)
+pub unless_holds : (code : SceneCode) (at : List ℕ) (b : Bool) → b ≡ true → unless code at b ≡ None
+unless_holds code at b holds = rw holds refl
 
--- a check of each element finds what another one does, where the two agree on each
-pub each_cover : {A : Type 0} (F G : ℕ → A → Finding) (d : A) (xs : List A) (k : ℕ)
-    → ((n i : ℕ) → n ≡ k + i → i < length xs → (found : Option SceneFault) → F n (get_or xs i d) found → G n (get_or xs i d) found)
-    → (found : Option SceneFault) → Each F k xs found → Each G k xs found
-each_cover F G d [] k h found none = none
-each_cover F G d (x ∷ xs) k h None (here, rest) = (
-  h k 0 (omega arith) (omega arith) None here,
-  each_cover F G d xs (k + 1) (λ n i is below. h n (suc i) (omega arith) (omega arith)) None rest,
-)
-each_cover F G d (x ∷ xs) k h (Some fault) (inl here) = inl (h k 0 (omega arith) (omega arith) (Some fault) here)
-each_cover F G d (x ∷ xs) k h (Some fault) (inr (here, rest)) =
-    inr (
-      h k 0 (omega arith) (omega arith) None here,
-      each_cover F G d xs (k + 1) (λ n i is below. h n (suc i) (omega arith) (omega arith)) (Some fault) rest,
-    )
+pub unless_fails : (code : SceneCode) (at : List ℕ) (b : Bool) (P : Type 0) → Decides b P → (P → ⊥) → unless code at b ≡ Some (record { code = code; path = at })
+unless_fails code at true P decides fails = absurd (fails (decides.0 refl))
+unless_fails code at false P decides fails = refl
+
+module _ {A : Type 0} (P : ℕ → Type 0) (test : ℕ → A → Bool) (code : SceneCode) (path : ℕ → List ℕ) (xs : List A)
+    (decides : (i : ℕ) (d : A) → i < length xs → Decides (test i (get_or xs i d)) (P i)) where
+  -- the fault at the first element without P, if there is one
+  pub first_found : (first : Option ℕ) → IsFirstWithout P (length xs) first
+      → each_from (λ i x. unless code (path i) (test i x)) 0 xs ≡ option_map (λ i. record { code = code; path = path i }) first
+  first_found None h =
+      each_none (λ i x. unless code (path i) (test i x)) xs 0
+      (λ n i d is below.
+      let same : i ≡ n = omega arith in
+      unless_holds code (path n) (test n (get_or xs i d))
+      (subst (λ (m : ℕ). test m (get_or xs i d) ≡ true) same ((decides i d below).1 (h i below))))
+  first_found (Some j) (below, bad, before) =
+      each_some (λ i x. unless code (path i) (test i x)) xs 0 j j (record { code = code; path = path j }) (omega arith) below
+      (λ d. unless_fails code (path j) (test j (get_or xs j d)) (P j) (decides j d below) bad)
+      (λ n i d is early.
+      let same : i ≡ n = omega arith in
+      unless_holds code (path n) (test n (get_or xs i d))
+      (subst (λ (m : ℕ). test m (get_or xs i d) ≡ true) same ((decides i d (omega arith)).1 (before i early))))
+
+-- what a function answers that looked for the first element without P
+pub first_told : {A : Type 0} (P : ℕ → Type 0) (test : ℕ → A → Bool) (code : SceneCode) (at : List ℕ) (xs : List A)
+    → ((i : ℕ) (d : A) → i < length xs → Decides (test i (get_or xs i d)) (P i)) → (first : Option ℕ) (r : Result (Unit {0}) FieldFault)
+    → IsFirstWithout P (length xs) first → IsFaultAtFirst code at first r → Finds r (each_from (λ i x. unless code (index_at at i) (test i x)) 0 xs)
+first_told P test code at xs decides first (Ok u) h told = first_found P test code (index_at at) xs decides first h ∙ rw told refl
+first_told P test code at xs decides first (Err errors.Memory) h told = tt
+first_told P test code at xs decides first (Err (errors.Fault fault)) h (i, is, fault_is) =
+    first_found P test code (index_at at) xs decides first h ∙ rw (is, fault_is) refl

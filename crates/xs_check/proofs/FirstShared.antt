@@ -1,22 +1,17 @@
-use Rattle.std.proofs.Common.{◌≡◌, ◌<◌, ◌+◌, ℕ, List, [], ◌∷◌, Option, Some, None, Result, Ok, Err, AllPairs, All, length, get_or, take, refl, sym, subst, arith}
+use Rattle.std.proofs.Common.{◌<◌, ◌+◌, ℕ, Bool, List, [], ◌∷◌, Option, Some, None, Result, Ok, Err, AllPairs, All, Decides, length, get_or, take, refl, sym, subst, arith}
+use Rattle.std.specs.List.{list_all}
 use Rattle.std.proofs.lemmas.List.{get_or_default, get_or-take, length-take, take_more}
 use Rattle.std.proofs.lemmas.List.Quantifiers.{all_pairs_push}
-use Rattle.xs_fault.specs.Paths.{index_at}
 use Rattle.xs_fault.specs.declared.code.SceneCode.TheVariants as code
-use Rattle.xs_fault.specs.declared.fault.SceneFault.{SceneFault}
 use Rattle.xs_fault.specs.declared.fault.FieldFault.{FieldFault}
 use Rattle.xs_fault.specs.declared.fault.FieldFault.TheVariants as errors
-use Rattle.xs_check.specs.Finding.{Finding, Finds, Unless, Each, IsFaultAtFirst}
-use Rattle.xs_check.specs.Passes.{EachApart}
+use Rattle.xs_check.specs.Finding.{Finds, IsFaultAtFirst}
+use Rattle.xs_check.specs.Passes.{apart_fault}
 use Rattle.xs_check.specs.Shared.{IsFirstShared}
 use Rattle.xs_base.specs.First.{IsFirstWithout}
-use Rattle.xs_check.proofs.Findings.{each_cover, first_told}
+use Rattle.xs_check.proofs.Findings.{first_told}
+use Rattle.xs_check.proofs.Tests.{all_decided}
 use Rattle.xs_check.proofs.Pairs.{AllPairs-take}
-
-finds_cover : (F G : Finding) → ((found : Option SceneFault) → F found → G found) → (r : Result (Unit {0}) FieldFault) → Finds r F → Finds r G
-finds_cover F G covers (Ok u) h = covers None h
-finds_cover F G covers (Err errors.Memory) h = tt
-finds_cover F G covers (Err (errors.Fault fault)) h = covers (Some fault) h
 
 module _ {A : Type 0} (Apart : A → A → Type 0) (xs : List A) where
   -- in a front that stands apart each element does so from the earlier ones
@@ -48,34 +43,23 @@ module _ {A : Type 0} (Apart : A → A → Type 0) (xs : List A) where
     λ j less. let inside = front.inside in earlier_apart i j d front.apart less (omega arith),
   )
 
-module _ {A : Type 0} (Apart : A → A → Type 0) (at : List ℕ) (d : A) (xs : List A) where
-  told_by : (first : Option ℕ) (r : Result (Unit {0}) FieldFault) → IsFirstShared Apart xs first → IsFaultAtFirst code.Overlap at first r
-      → Finds r (EachApart Apart at xs)
-  unfolding EachApart
-  told_by first r h told =
-      finds_cover
-      (Each (λ i x. Unless code.Overlap (index_at at i) (All (λ e. Apart e (get_or xs i d)) (take i xs))) 0 xs)
-      (Each (λ i x. Unless code.Overlap (index_at at i) (All (λ e. Apart e x) (take i xs))) 0 xs)
-      (each_cover
-      (λ i x. Unless code.Overlap (index_at at i) (All (λ e. Apart e (get_or xs i d)) (take i xs)))
-      (λ i x. Unless code.Overlap (index_at at i) (All (λ e. Apart e x) (take i xs)))
-      d xs 0
-      (λ n i same below found finds.
-      let is : n ≡ i = omega arith in
-      subst (λ (m : ℕ). Unless code.Overlap (index_at at n) (All (λ e. Apart e (get_or xs m d)) (take n xs)) found) is finds))
-      r
-      (first_told (λ i. All (λ e. Apart e (get_or xs i d)) (take i xs)) code.Overlap at xs first r (first_without Apart xs first d h) told)
+module _ {A : Type 0} (Apart : A → A → Type 0) (apart : A → A → Bool) (decides : (a b : A) → Decides (apart a b) (Apart a b)) where
+  -- whether an element stands apart from each earlier one is tested
+  pub earlier_decided : (xs : List A) (d e : A) (i : ℕ) → i < length xs
+      → Decides (list_all (λ earlier. apart earlier (get_or xs i e)) (take i xs)) (All (λ earlier. Apart earlier (get_or xs i d)) (take i xs))
+  earlier_decided xs d e i below =
+      rw (get_or_default xs i e d below)
+      (all_decided (λ earlier. apart earlier (get_or xs i d)) (λ earlier. Apart earlier (get_or xs i d)) (λ earlier. decides earlier (get_or xs i d)) (take i xs))
 
-none_told : {A : Type 0} (Apart : A → A → Type 0) (at : List ℕ) (first : Option ℕ) (r : Result (Unit {0}) FieldFault) → IsFirstShared Apart [] first
-    → IsFaultAtFirst code.Overlap at first r → Finds r (EachApart Apart at [])
-unfolding EachApart
-none_told Apart at (Some i) r front told = absurd (let inside = front.inside in omega arith)
-none_told Apart at None (Ok u) h told = refl
-none_told Apart at None (Err errors.Memory) h told = tt
-none_told Apart at None (Err (errors.Fault fault)) h (i, is, fault_is) = absurd (cc)
-
--- the fault at the first element that does not stand apart from each earlier one
-pub shared_told : {A : Type 0} (Apart : A → A → Type 0) (at : List ℕ) (xs : List A) (first : Option ℕ) (r : Result (Unit {0}) FieldFault)
-    → IsFirstShared Apart xs first → IsFaultAtFirst code.Overlap at first r → Finds r (EachApart Apart at xs)
-shared_told Apart at [] first r h told = none_told Apart at first r h told
-shared_told Apart at (x ∷ xs) first r h told = told_by Apart at x (x ∷ xs) first r h told
+  -- the fault at the first element that does not stand apart from each earlier one
+  pub shared_told : (at : List ℕ) (xs : List A) (first : Option ℕ) (r : Result (Unit {0}) FieldFault)
+      → IsFirstShared Apart xs first → IsFaultAtFirst code.Overlap at first r → Finds r (apart_fault apart at xs)
+  unfolding apart_fault
+  shared_told at [] None (Ok u) h told = refl
+  shared_told at [] None (Err errors.Memory) h told = tt
+  shared_told at [] None (Err (errors.Fault fault)) h (i, is, fault_is) = absurd (cc)
+  shared_told at [] (Some i) r front told = absurd (let inside = front.inside in omega arith)
+  shared_told at (x ∷ rest) first r h told =
+      let xs = x ∷ rest in
+      first_told (λ i. All (λ e. Apart e (get_or xs i x)) (take i xs)) (λ i y. list_all (λ earlier. apart earlier y) (take i xs)) code.Overlap at xs
+      (λ i e below. earlier_decided xs x e i below) first r (first_without Apart xs first x h) told

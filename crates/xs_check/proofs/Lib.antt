@@ -8,7 +8,9 @@ mod Numbering
 mod Readings
 mod StyleKeys
 mod FirstShared
-mod Settled
-mod Deciding
-mod DecidedPasses
 mod IndexApart
+mod Tests
+mod Only
+mod Telling
+mod Clear
+mod Tells

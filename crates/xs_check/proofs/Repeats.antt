@@ -1,4 +1,4 @@
-use Rattle.std.proofs.Common.{Bor, option_map, ◌≡◌, ◌≢◌, ◌<◌, ◌+◌, ℕ, Bool, true, false, cond, ◌||◌, Option, Some, is_some, List, [], All, length, map, get_or, take, refl, sym, ◌∙◌, ap, subst, arith}
+use Rattle.std.proofs.Common.{Bor, option_map, ◌≡◌, ◌≢◌, ◌<◌, ◌+◌, ℕ, Bool, true, false, not, cond, ◌||◌, Option, Some, is_some, List, [], All, length, map, get_or, take, refl, sym, ◌∙◌, ap, subst}
 use Rattle.std.proofs.lemmas.Bool.{false≢true}
 use Rattle.std.proofs.lemmas.List.{get_or_default}
 use Rattle.std.proofs.lemmas.List.Folds.{Any-from_list_any, list_any-from_Any, list_any_more}
@@ -6,16 +6,16 @@ use Rattle.std.proofs.lemmas.Slice.Eq.{bytes_eq-Decides}
 use Rattle.std.proofs.Math.ListN.{get_or-map}
 use Rattle.std.specs.BTreeMap.{BTreeMap, get_by}
 use Rattle.std.specs.Cmp.Lexicographic.{slice_cmp}
-use Rattle.std.specs.List.{list_any}
+use Rattle.std.specs.List.{list_any, list_all}
 use Rattle.std.specs.Ordering.{nat_cmp}
 use Rattle.xs_fault.specs.declared.code.SceneCode.TheVariants as code
-use Rattle.xs_fault.specs.declared.fault.SceneFault.{SceneFault}
 use Rattle.xs_scene.specs.Records.{LevelRecord}
-use Rattle.xs_check.specs.Finding.{Unless}
 use Rattle.xs_check.specs.Good.{files_of}
-use Rattle.xs_check.specs.Passes.{file_path, FilesApart}
+use Rattle.xs_check.specs.Passes.{file_path, file_fault}
 use Rattle.xs_base.specs.First.{IsFirstWithout}
-use Rattle.xs_check.proofs.Findings.{each_cover, first_found}
+use Rattle.xs_check.proofs.Findings.{first_found}
+use Rattle.xs_check.proofs.FirstShared.{earlier_decided}
+use Rattle.xs_check.proofs.Tests.{texts_decided}
 use Rattle.std.specs.Str.{bytes_eq}
 
 -- whether a text is among some
@@ -86,19 +86,13 @@ module _ (files : List (Bor (List ℕ))) (d : ℕ) (known : BTreeMap (Bor (List 
       (ap (λ (o : Option (Unit {0})). is_some o) (updated q)
       ∙ is_some_cond (bytes_eq (get_or files d no_text).now q) tt (get_by (λ k. slice_cmp nat_cmp q k.now) known))
 
-pub files_first : (levels : List LevelRecord) (names : List (List ℕ)) (first : Option ℕ) (found : Option SceneFault) → names ≡ files_of levels
+pub files_first : (levels : List LevelRecord) (names : List (List ℕ)) (first : Option ℕ) → names ≡ files_of levels
     → IsFirstWithout (λ d. All (λ e. e ≢ get_or names d []) (take d names)) (length names) first
-    → found ≡ option_map (λ d. record { code = code.Overlap; path = file_path 0 levels d }) first → FilesApart levels found
-unfolding FilesApart
-files_first levels names first found are h is =
+    → file_fault levels ≡ option_map (λ d. record { code = code.Overlap; path = file_path 0 levels d }) first
+unfolding file_fault
+files_first levels names first are h =
     let named = files_of levels in
-    let first_in = subst (λ (l : List (List ℕ)). IsFirstWithout (λ d. All (λ e. e ≢ get_or l d []) (take d l)) (length l) first) are h in
-    each_cover
-    (λ d file. Unless code.Overlap (file_path 0 levels d) (All (λ e. e ≢ get_or named d []) (take d named)))
-    (λ d file. Unless code.Overlap (file_path 0 levels d) (All (λ e. e ≢ file) (take d named)))
-    [] named 0
-    (λ n i same below result finds.
-    let at : n ≡ i = omega arith in
-    subst (λ (m : ℕ). Unless code.Overlap (file_path 0 levels n) (All (λ e. e ≢ get_or named m []) (take n named)) result) at finds)
-    found
-    (first_found (λ d. All (λ e. e ≢ get_or named d []) (take d named)) code.Overlap (file_path 0 levels) named first first_in found is)
+    first_found (λ d. All (λ e. e ≢ get_or named d []) (take d named)) (λ d file. list_all (λ earlier. not (bytes_eq earlier file)) (take d named))
+    code.Overlap (file_path 0 levels) named
+    (λ d e below. earlier_decided (λ (a : List ℕ) (b : List ℕ). a ≢ b) (λ a b. not (bytes_eq a b)) texts_decided named [] e d below)
+    first (subst (λ (l : List (List ℕ)). IsFirstWithout (λ d. All (λ e. e ≢ get_or l d []) (take d l)) (length l) first) are h)

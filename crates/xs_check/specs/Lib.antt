@@ -5,3 +5,5 @@ pub mod Shared
 pub mod Good
 pub mod Passes
 pub mod Readers
+pub mod Told
+pub mod Samples

@@ -1,9 +1,12 @@
--- The passes of checking. Each goes through the scene in the order camera, palettes, levels, sheets, and
+-- The first fault of a scene, by the passes of checking. Each goes through the scene in the order camera, palettes, levels, sheets, and
 -- in each sheet pegs, columns, nodes, out.
-use Rattle.std.specs.Prelude.{◌≢◌, ◌≤◌, ◌<◌, ◌+◌, ◌-◌, ℕ, nat_lt, List, [], ◌∷◌, All, length, map, take, if◌then◌else◌}
+use Rattle.std.specs.Prelude.{◌==◌, ◌≡◌, ◌&&◌, ◌+◌, ◌-◌, ℕ, Bool, not, nat_lt, nat_le, min, max, List, [], ◌∷◌, Option, None, length, map, take, if◌then◌else◌}
+use Rattle.std.specs.List.{list_all}
+use Rattle.std.specs.Str.{bytes_eq}
 use Rattle.xs_base.specs.declared.limits.TheConstants.{MOST_STYLES, MOST_STYLE_KEYS, MOST_FILTER_STYLES, LONGEST_SHUFFLE, MOST_COLUMNS, MOST_NODES, MOST_TERMINALS, LONGEST_PEG_CHAIN, DEEPEST_NEST}
 use Rattle.xs_fault.specs.declared.code.SceneCode.{SceneCode}
 use Rattle.xs_fault.specs.declared.code.SceneCode.TheVariants as code
+use Rattle.xs_fault.specs.declared.fault.SceneFault.{SceneFault}
 use Rattle.xs_fault.specs.declared.field.Field.TheVariants as field
 use Rattle.xs_fault.specs.Paths.{index_at}
 use Rattle.xs_fault.specs.Paths.{path_of}
@@ -18,12 +21,12 @@ use Rattle.xs_scene.specs.declared.node.Inputs.TheVariants.{Zero, One, Two}
 use Rattle.xs_scene.specs.declared.node.Node.{Node}
 use Rattle.xs_scene.specs.declared.node.Node.TheVariants.{Pair, Card, Shuffle, Blur, Keep, Delete}
 use Rattle.xs_scene.specs.Inputs.{inputs_of_node}
-use Rattle.xs_scene.specs.Records.{SceneRecord, SheetRecord, ColoursRecord, LevelRecord, PegRecord, ColumnRecord, ExposureRecord}
+use Rattle.xs_scene.specs.Records.{SceneRecord, SheetRecord, ColoursRecord, StyleKeyRecord, LevelRecord, PegRecord, PegKeyRecord, ColumnRecord, ExposureRecord}
 use Rattle.xs_meaning.specs.Walk.{sheet_at}
-use Rattle.xs_check.specs.Finding.{Finding, Nothing, Unless, Then, Each, EachAt, IfThere}
-use Rattle.xs_index.specs.Apart.{AreApart, DifferInRow, DifferInRowOrStyle}
+use Rattle.xs_check.specs.Finding.{Finding, unless, or_else, each_from, in_list, if_there}
 use Rattle.xs_check.specs.Good.{level_at, files_of}
-use Rattle.xs_graph.specs.Paths.{Links, LiesOnCycle, HasChain}
+use Rattle.xs_graph.specs.Paths.{Links, has_chain}
+use Rattle.xs_graph.specs.Cycles.{lies_on_cycle}
 use Rattle.xs_check.specs.Links.{parent_links, input_links, sheet_links}
 
 -- the path of the sheets
@@ -32,107 +35,118 @@ sheets_at = path_of field.Sheets []
 
 -- ---- sizes
 
--- a list is no longer than its limit
-abbrev pub AtMost : {A : Type 0} → ℕ → List ℕ → List A → Finding
-AtMost limit at xs = Unless code.TooMany at (length xs ≤ limit)
+-- a list that is longer than its limit
+abbrev pub length_fault : {A : Type 0} → ℕ → List ℕ → List A → Finding
+length_fault limit at xs = unless code.TooMany at (nat_le (length xs) limit)
 
-abbrev pub PaletteSizes : List ℕ → ColoursRecord → Finding
-PaletteSizes at c = Then (AtMost MOST_STYLES at c.styles) (AtMost MOST_STYLE_KEYS (path_of field.Keys at) c.keys)
+abbrev pub palette_size_fault : List ℕ → ColoursRecord → Finding
+palette_size_fault at c = or_else (length_fault MOST_STYLES at c.styles) (length_fault MOST_STYLE_KEYS (path_of field.Keys at) c.keys)
 
-abbrev pub NodeSizes : List ℕ → Node → Finding
-NodeSizes at (Shuffle input list) = AtMost LONGEST_SHUFFLE (path_of field.List at) list
-NodeSizes at (Keep input styles) = AtMost MOST_FILTER_STYLES (path_of field.Styles at) styles
-NodeSizes at (Delete input styles) = AtMost MOST_FILTER_STYLES (path_of field.Styles at) styles
-NodeSizes at (Pair op first second) = Nothing
-NodeSizes at (Card style) = Nothing
-NodeSizes at (Blur input radius) = Nothing
+abbrev pub node_size_fault : List ℕ → Node → Finding
+node_size_fault at (Shuffle input list) = length_fault LONGEST_SHUFFLE (path_of field.List at) list
+node_size_fault at (Keep input styles) = length_fault MOST_FILTER_STYLES (path_of field.Styles at) styles
+node_size_fault at (Delete input styles) = length_fault MOST_FILTER_STYLES (path_of field.Styles at) styles
+node_size_fault at (Pair op first second) = None
+node_size_fault at (Card style) = None
+node_size_fault at (Blur input radius) = None
 
-abbrev pub SheetSizes : List ℕ → SheetRecord → Finding
-SheetSizes at k =
-    Then (AtMost MOST_COLUMNS (path_of field.Columns at) k.columns)
-    (Then (AtMost MOST_NODES (path_of field.Nodes at) k.nodes)
-    (Then (EachAt (path_of field.Nodes at) NodeSizes k.nodes)
-    (IfThere (AtMost MOST_TERMINALS (path_of field.Out at)) k.out)))
+abbrev pub sheet_size_fault : List ℕ → SheetRecord → Finding
+sheet_size_fault at k =
+    or_else (length_fault MOST_COLUMNS (path_of field.Columns at) k.columns)
+    (or_else (length_fault MOST_NODES (path_of field.Nodes at) k.nodes)
+    (or_else (in_list (path_of field.Nodes at) node_size_fault k.nodes)
+    (if_there (length_fault MOST_TERMINALS (path_of field.Out at)) k.out)))
 
 -- lists that are too long
-abbrev pub Sizes : SceneRecord → Finding
-Sizes s =
-    Then (EachAt (path_of field.Palettes []) PaletteSizes s.palettes)
-    (EachAt sheets_at SheetSizes s.sheets)
+abbrev pub size_fault : SceneRecord → Finding
+size_fault s =
+    or_else (in_list (path_of field.Palettes []) palette_size_fault s.palettes)
+    (in_list sheets_at sheet_size_fault s.sheets)
 
 -- ---- references
 
--- a number at a path names one of some things
-abbrev pub NamesOne : {A : Type 0} → List ℕ → List A → ℕ → Finding
-NamesOne at things number = Unless code.NoSuchReference at (number < length things)
+-- a number at a path that names none of some things
+abbrev pub naming_fault : {A : Type 0} → List ℕ → List A → ℕ → Finding
+naming_fault at things number = unless code.NoSuchReference at (nat_lt number (length things))
 
-abbrev pub CameraReference : SceneRecord → Finding
-CameraReference s =
-    IfThere (NamesOne (path_of field.Peg (path_of field.Camera [])) (sheet_at s.sheets 0).pegs) s.camera.peg
+abbrev pub camera_reference_fault : SceneRecord → Finding
+camera_reference_fault s =
+    if_there (naming_fault (path_of field.Peg (path_of field.Camera [])) (sheet_at s.sheets 0).pegs) s.camera.peg
 
-abbrev pub PaletteReferences : List ℕ → ColoursRecord → Finding
-PaletteReferences at c =
-    EachAt (path_of field.Keys at) (λ at key. NamesOne (path_of field.Style at) c.styles key.style) c.keys
+abbrev pub palette_reference_fault : List ℕ → ColoursRecord → Finding
+palette_reference_fault at c =
+    in_list (path_of field.Keys at) (λ at key. naming_fault (path_of field.Style at) c.styles key.style) c.keys
 
-abbrev pub KindReference : SceneRecord → List ℕ → Kind → Finding
-KindReference s at Colour = Nothing
-KindReference s at (Cm32 palette) = NamesOne (path_of field.Palette at) s.palettes palette
+abbrev pub kind_reference_fault : SceneRecord → List ℕ → Kind → Finding
+kind_reference_fault s at Colour = None
+kind_reference_fault s at (Cm32 palette) = naming_fault (path_of field.Palette at) s.palettes palette
 
-unfoldable pub LevelReference : SceneRecord → List ℕ → LevelRecord → Finding
-LevelReference s at level = KindReference s at level.kind
+unfoldable pub level_reference_fault : SceneRecord → List ℕ → LevelRecord → Finding
+level_reference_fault s at level = kind_reference_fault s at level.kind
 
-abbrev pub ShownReferences : SceneRecord → List ℕ → Shown → Finding
-ShownReferences s at (Drawing level index) =
-    Then (NamesOne (path_of field.Level at) s.levels level)
-    (NamesOne (path_of field.Drawing at) (level_at s.levels level).drawings index)
-ShownReferences s at (Sheet sheet start) = NamesOne (path_of field.Sheet at) s.sheets sheet
+abbrev pub shown_reference_fault : SceneRecord → List ℕ → Shown → Finding
+shown_reference_fault s at (Drawing level index) =
+    or_else (naming_fault (path_of field.Level at) s.levels level)
+    (naming_fault (path_of field.Drawing at) (level_at s.levels level).drawings index)
+shown_reference_fault s at (Sheet sheet start) = naming_fault (path_of field.Sheet at) s.sheets sheet
 
-unfoldable pub CellReferences : SceneRecord → List ℕ → ExposureRecord → Finding
-CellReferences s at e = ShownReferences s at e.shown
+unfoldable pub cell_reference_fault : SceneRecord → List ℕ → ExposureRecord → Finding
+cell_reference_fault s at e = shown_reference_fault s at e.shown
 
-abbrev pub PegReference : SheetRecord → List ℕ → PegRecord → Finding
-PegReference k at peg = IfThere (NamesOne (path_of field.Parent at) k.pegs) peg.parent
+abbrev pub peg_reference_fault : SheetRecord → List ℕ → PegRecord → Finding
+peg_reference_fault k at peg = if_there (naming_fault (path_of field.Parent at) k.pegs) peg.parent
 
-abbrev pub ColumnReferences : SceneRecord → SheetRecord → List ℕ → ColumnRecord → Finding
-ColumnReferences s k at column =
-    Then (IfThere (NamesOne (path_of field.Peg at) k.pegs) column.peg)
-    (EachAt (path_of field.Cells at) (CellReferences s) column.cells)
+abbrev pub column_reference_fault : SceneRecord → SheetRecord → List ℕ → ColumnRecord → Finding
+column_reference_fault s k at column =
+    or_else (if_there (naming_fault (path_of field.Peg at) k.pegs) column.peg)
+    (in_list (path_of field.Cells at) (cell_reference_fault s) column.cells)
 
-abbrev pub RefReference : SheetRecord → List ℕ → Ref → Finding
-RefReference k at (ToColumn c) = NamesOne (path_of field.Column at) k.columns c
-RefReference k at (ToNode n) = NamesOne (path_of field.Node at) k.nodes n
+abbrev pub target_fault : SheetRecord → List ℕ → Ref → Finding
+target_fault k at (ToColumn c) = naming_fault (path_of field.Column at) k.columns c
+target_fault k at (ToNode n) = naming_fault (path_of field.Node at) k.nodes n
 
-abbrev pub InputReferences : SheetRecord → List ℕ → Inputs → Finding
-InputReferences k at Zero = Nothing
-InputReferences k at (One input) = RefReference k (path_of field.Input at) input
-InputReferences k at (Two first second) =
-    Then (RefReference k (path_of field.First at) first) (RefReference k (path_of field.Second at) second)
+abbrev pub input_reference_fault : SheetRecord → List ℕ → Inputs → Finding
+input_reference_fault k at Zero = None
+input_reference_fault k at (One input) = target_fault k (path_of field.Input at) input
+input_reference_fault k at (Two first second) =
+    or_else (target_fault k (path_of field.First at) first) (target_fault k (path_of field.Second at) second)
 
-unfoldable pub NodeReferences : SheetRecord → List ℕ → Node → Finding
-NodeReferences k at node = InputReferences k at (inputs_of_node node)
+unfoldable pub node_reference_fault : SheetRecord → List ℕ → Node → Finding
+node_reference_fault k at node = input_reference_fault k at (inputs_of_node node)
 
-abbrev pub SheetReferences : SceneRecord → List ℕ → SheetRecord → Finding
-SheetReferences s at k =
-    Then (EachAt (path_of field.Pegs at) (PegReference k) k.pegs)
-    (Then (EachAt (path_of field.Columns at) (ColumnReferences s k) k.columns)
-    (Then (EachAt (path_of field.Nodes at) (NodeReferences k) k.nodes)
-    (IfThere (EachAt (path_of field.Out at) (RefReference k)) k.out)))
+abbrev pub sheet_reference_fault : SceneRecord → List ℕ → SheetRecord → Finding
+sheet_reference_fault s at k =
+    or_else (in_list (path_of field.Pegs at) (peg_reference_fault k) k.pegs)
+    (or_else (in_list (path_of field.Columns at) (column_reference_fault s k) k.columns)
+    (or_else (in_list (path_of field.Nodes at) (node_reference_fault k) k.nodes)
+    (if_there (in_list (path_of field.Out at) (target_fault k)) k.out)))
 
 -- numbers that name nothing, and a scene without a sheet
-abbrev pub References : SceneRecord → Finding
-References s =
-    Then (CameraReference s)
-    (Then (EachAt (path_of field.Palettes []) PaletteReferences s.palettes)
-    (Then (EachAt (path_of field.Levels []) (LevelReference s) s.levels)
-    (Then (Unless code.NoSuchReference (path_of field.Sheets []) (0 < length s.sheets))
-    (EachAt sheets_at (SheetReferences s) s.sheets))))
+abbrev pub reference_fault : SceneRecord → Finding
+reference_fault s =
+    or_else (camera_reference_fault s)
+    (or_else (in_list (path_of field.Palettes []) palette_reference_fault s.palettes)
+    (or_else (in_list (path_of field.Levels []) (level_reference_fault s) s.levels)
+    (or_else (unless code.NoSuchReference (path_of field.Sheets []) (nat_lt 0 (length s.sheets)))
+    (in_list sheets_at (sheet_reference_fault s) s.sheets))))
 
 -- ---- overlaps
 
--- an element of the list at a path stands apart from each earlier one
-unfoldable pub EachApart : {A : Type 0} → (A → A → Type 0) → List ℕ → List A → Finding
-EachApart Apart at xs =
-    Each (λ i x. Unless code.Overlap (index_at at i) (All (λ earlier. Apart earlier x) (take i xs))) 0 xs
+-- no row lies in both exposures: one ends before the other begins
+abbrev pub are_apart : ExposureRecord → ExposureRecord → Bool
+are_apart a b = nat_lt (min a.to b.to) (max a.from b.from)
+
+abbrev pub differ_in_row : PegKeyRecord → PegKeyRecord → Bool
+differ_in_row a b = not (a.row == b.row)
+
+-- two palette keys of one style differ in row
+abbrev pub differ_in_row_or_style : StyleKeyRecord → StyleKeyRecord → Bool
+differ_in_row_or_style a b = not (a.style == b.style && a.row == b.row)
+
+-- the first element of the list at a path that does not stand apart from each earlier one
+unfoldable pub apart_fault : {A : Type 0} → (A → A → Bool) → List ℕ → List A → Finding
+apart_fault apart at xs =
+    each_from (λ i x. unless code.Overlap (index_at at i) (list_all (λ earlier. apart earlier x) (take i xs))) 0 xs
 
 -- the path of the name of a drawing, by its level and its place in the level's list
 abbrev pub drawing_path : List ℕ → ℕ → ℕ → List ℕ
@@ -146,75 +160,79 @@ file_path i (level ∷ levels) d =
     then drawing_path (path_of field.Levels []) i d
     else file_path (i + 1) levels (d - length level.drawings)
 
--- a drawing has another file name than each earlier one of the scene
-unfoldable pub FilesApart : List LevelRecord → Finding
-FilesApart levels =
-    Each
-    (λ d file. Unless code.Overlap (file_path 0 levels d) (All (λ earlier. earlier ≢ file) (take d (files_of levels))))
+-- the first drawing with the file name of an earlier one of the scene
+unfoldable pub file_fault : List LevelRecord → Finding
+file_fault levels =
+    each_from
+    (λ d file. unless code.Overlap (file_path 0 levels d) (list_all (λ earlier. not (bytes_eq earlier file)) (take d (files_of levels))))
     0 (files_of levels)
 
-abbrev pub PaletteOverlaps : List ℕ → ColoursRecord → Finding
-PaletteOverlaps at c = EachApart DifferInRowOrStyle (path_of field.Keys at) c.keys
+abbrev pub palette_overlap_fault : List ℕ → ColoursRecord → Finding
+palette_overlap_fault at c = apart_fault differ_in_row_or_style (path_of field.Keys at) c.keys
 
-abbrev pub PegOverlaps : List ℕ → PegRecord → Finding
-PegOverlaps at peg = EachApart DifferInRow (path_of field.Keys at) peg.keys
+abbrev pub peg_overlap_fault : List ℕ → PegRecord → Finding
+peg_overlap_fault at peg = apart_fault differ_in_row (path_of field.Keys at) peg.keys
 
-abbrev pub ColumnOverlaps : List ℕ → ColumnRecord → Finding
-ColumnOverlaps at column = EachApart AreApart (path_of field.Cells at) column.cells
+abbrev pub column_overlap_fault : List ℕ → ColumnRecord → Finding
+column_overlap_fault at column = apart_fault are_apart (path_of field.Cells at) column.cells
 
-abbrev pub SheetOverlaps : List ℕ → SheetRecord → Finding
-SheetOverlaps at k =
-    Then (EachAt (path_of field.Pegs at) PegOverlaps k.pegs)
-    (EachAt (path_of field.Columns at) ColumnOverlaps k.columns)
+abbrev pub sheet_overlap_fault : List ℕ → SheetRecord → Finding
+sheet_overlap_fault at k =
+    or_else (in_list (path_of field.Pegs at) peg_overlap_fault k.pegs)
+    (in_list (path_of field.Columns at) column_overlap_fault k.columns)
 
 -- what stands where something earlier stands: a key of a palette or a peg with the row of an earlier one,
 -- a drawing with the file name of an earlier one, a cell that shares a row with an earlier one
-abbrev pub Overlaps : SceneRecord → Finding
-Overlaps s =
-    Then (EachAt (path_of field.Palettes []) PaletteOverlaps s.palettes)
-    (Then (FilesApart s.levels) (EachAt sheets_at SheetOverlaps s.sheets))
+abbrev pub overlap_fault : SceneRecord → Finding
+overlap_fault s =
+    or_else (in_list (path_of field.Palettes []) palette_overlap_fault s.palettes)
+    (or_else (file_fault s.levels) (in_list sheets_at sheet_overlap_fault s.sheets))
 
 -- ---- cycles and chains
 
--- of the things in the list at a path, which have these links, none lies on a cycle
-unfoldable pub NoCycles : SceneCode → Links → List ℕ → Finding
-NoCycles code links at = Each (λ i targets. Unless code (index_at at i) (LiesOnCycle links i → ⊥)) 0 links
+-- of the things in the list at a path, which have these links, the first that lies on a cycle
+unfoldable pub cycle_fault : SceneCode → Links → List ℕ → Finding
+cycle_fault code links at = each_from (λ i targets. unless code (index_at at i) (not (lies_on_cycle links i))) 0 links
 
--- and at none begins a chain of more than so many things: a chain of one more has as many steps
-unfoldable pub NoLongChains : ℕ → Links → List ℕ → Finding
-NoLongChains most links at = Each (λ i targets. Unless code.TooMany (index_at at i) (HasChain links most i → ⊥)) 0 links
+-- and the first at which a chain of more than so many things begins: a chain of one more has as many steps
+unfoldable pub long_chain_fault : ℕ → Links → List ℕ → Finding
+long_chain_fault most links at = each_from (λ i targets. unless code.TooMany (index_at at i) (not (has_chain links most i))) 0 links
 
 -- pegs that lie on a cycle of parents, by the parents of the pegs of each sheet
-abbrev pub SheetPegCycles : List ℕ → Links → Finding
-SheetPegCycles at parents = NoCycles code.PegCycle parents (path_of field.Pegs at)
+abbrev pub sheet_peg_cycle_fault : List ℕ → Links → Finding
+sheet_peg_cycle_fault at parents = cycle_fault code.PegCycle parents (path_of field.Pegs at)
 
-abbrev pub PegCycles : List Links → Finding
-PegCycles parents = EachAt sheets_at SheetPegCycles parents
+abbrev pub peg_cycle_fault : List Links → Finding
+peg_cycle_fault parents = in_list sheets_at sheet_peg_cycle_fault parents
 
 -- nodes that lie on a cycle of inputs
-abbrev pub SheetNodeCycles : List ℕ → SheetRecord → Finding
-SheetNodeCycles at k = NoCycles code.NodeCycle (input_links k) (path_of field.Nodes at)
+abbrev pub sheet_node_cycle_fault : List ℕ → SheetRecord → Finding
+sheet_node_cycle_fault at k = cycle_fault code.NodeCycle (input_links k) (path_of field.Nodes at)
 
-abbrev pub NodeCycles : SceneRecord → Finding
-NodeCycles s = EachAt sheets_at SheetNodeCycles s.sheets
+abbrev pub node_cycle_fault : SceneRecord → Finding
+node_cycle_fault s = in_list sheets_at sheet_node_cycle_fault s.sheets
 
 -- sheets that lie on a cycle of exposures, by the sheets that each exposes
-abbrev pub SheetCycles : Links → Finding
-SheetCycles nested = NoCycles code.SheetCycle nested sheets_at
+abbrev pub sheet_cycle_fault : Links → Finding
+sheet_cycle_fault nested = cycle_fault code.SheetCycle nested sheets_at
 
 -- pegs at which too long a chain begins, itself counted, and then sheets at which one of nested sheets does
-abbrev pub SheetLongChains : List ℕ → Links → Finding
-SheetLongChains at parents = NoLongChains LONGEST_PEG_CHAIN parents (path_of field.Pegs at)
+abbrev pub sheet_chain_fault : List ℕ → Links → Finding
+sheet_chain_fault at parents = long_chain_fault LONGEST_PEG_CHAIN parents (path_of field.Pegs at)
 
-abbrev pub LongChains : List Links → Links → Finding
-LongChains parents nested = Then (EachAt sheets_at SheetLongChains parents) (NoLongChains DEEPEST_NEST nested sheets_at)
+abbrev pub chain_fault : List Links → Links → Finding
+chain_fault parents nested = or_else (in_list sheets_at sheet_chain_fault parents) (long_chain_fault DEEPEST_NEST nested sheets_at)
 
--- the seven passes
-abbrev pub Checking : SceneRecord → Finding
-Checking s =
-    Then (Sizes s)
-    (Then (References s)
-    (Then (Overlaps s)
-    (Then (PegCycles (map parent_links s.sheets))
-    (Then (NodeCycles s)
-    (Then (SheetCycles (sheet_links s.sheets)) (LongChains (map parent_links s.sheets) (sheet_links s.sheets)))))))
+-- the first fault of a scene, by the seven passes
+abbrev pub first_fault : SceneRecord → Finding
+first_fault s =
+    or_else (size_fault s)
+    (or_else (reference_fault s)
+    (or_else (overlap_fault s)
+    (or_else (peg_cycle_fault (map parent_links s.sheets))
+    (or_else (node_cycle_fault s)
+    (or_else (sheet_cycle_fault (sheet_links s.sheets)) (chain_fault (map parent_links s.sheets) (sheet_links s.sheets)))))))
+
+-- checking a scene finds this
+abbrev pub Checking : SceneRecord → Option SceneFault → Type 0
+Checking s found = first_fault s ≡ found

@@ -2,7 +2,7 @@
 ghost use Rattle.std.specs.Prelude.{◌≡◌, ◌<◌, []};
 ghost use Rattle.xs_check.specs.Finding.{Finds};
 ghost use Rattle.xs_fault.specs.Paths.{path_of};
-ghost use Rattle.xs_check.specs.Passes.{PegCycles, NodeCycles, SheetCycles, LongChains, NoCycles, NoLongChains};
+ghost use Rattle.xs_check.specs.Passes.{peg_cycle_fault, node_cycle_fault, sheet_cycle_fault, chain_fault, cycle_fault, long_chain_fault};
 
 use crate::finding::{Requirement, each, tell_first};
 use crate::links::links_of;
@@ -10,6 +10,7 @@ use std::alloc::Global;
 use xs_base::List;
 use xs_base::limits::{DEEPEST_NEST, LONGEST_PEG_CHAIN};
 use xs_fault::{Field, FieldFault, Path, Place, SceneCode};
+use xs_graph::laws::{chains_are_told_link_by_link, cycles_are_told_node_by_node};
 use xs_graph::{first_long, first_on_cycle};
 use xs_scene::{Scene, Sheet};
 
@@ -21,9 +22,10 @@ fn no_cycles(
     at: &Path,
     field: Field,
 ) -> Result<(), FieldFault>
-    ensures { Finds result (NoCycles code links.now (path_of field at.now)) }
+    ensures { Finds result (cycle_fault code links.now (path_of field at.now)) }
 {
     let first = first_on_cycle(alloc, links)?;
+    cycles_are_told_node_by_node();
     tell_first(alloc, first, code, at, field)
 }
 
@@ -36,20 +38,21 @@ fn no_long_chains(
     field: Field,
 ) -> Result<(), FieldFault>
     requires { 0 < most }
-    ensures { Finds result (NoLongChains most links.now (path_of field at.now)) }
+    ensures { Finds result (long_chain_fault most links.now (path_of field at.now)) }
 {
     let first = first_long(alloc, links, most)?;
+    chains_are_told_link_by_link();
     tell_first(alloc, first, SceneCode::TooMany, at, field)
 }
 
 /// The pegs of a sheet that lie on a cycle of parents.
-#[derive(Drop)]
+#[derive(Clone, Copy)]
 struct PegCycle;
 
 impl Requirement<List<List<u32>>> for PegCycle {
-    ghost use Rattle.xs_check.specs.Passes.{SheetPegCycles};
+    ghost use Rattle.xs_check.specs.Passes.{sheet_peg_cycle_fault};
 
-    ghost finds = { λ _. SheetPegCycles };
+    ghost finds = { λ _. sheet_peg_cycle_fault };
 
     fn look(&self, alloc: Global, item: &List<List<u32>>, at: &Place) -> Result<(), FieldFault> {
         let path = at.path(alloc)?;
@@ -58,13 +61,13 @@ impl Requirement<List<List<u32>>> for PegCycle {
 }
 
 /// The nodes of a sheet that lie on a cycle of inputs.
-#[derive(Drop)]
+#[derive(Clone, Copy)]
 struct NodeCycle;
 
 impl Requirement<Sheet> for NodeCycle {
-    ghost use Rattle.xs_check.specs.Passes.{SheetNodeCycles};
+    ghost use Rattle.xs_check.specs.Passes.{sheet_node_cycle_fault};
 
-    ghost finds = { λ _. SheetNodeCycles };
+    ghost finds = { λ _. sheet_node_cycle_fault };
 
     fn look(&self, alloc: Global, item: &Sheet, at: &Place) -> Result<(), FieldFault> {
         let path = at.path(alloc)?;
@@ -74,13 +77,13 @@ impl Requirement<Sheet> for NodeCycle {
 }
 
 /// The pegs of a sheet at which a chain of more than `LONGEST_PEG_CHAIN` pegs begins.
-#[derive(Drop)]
+#[derive(Clone, Copy)]
 struct LongChain;
 
 impl Requirement<List<List<u32>>> for LongChain {
-    ghost use Rattle.xs_check.specs.Passes.{SheetLongChains};
+    ghost use Rattle.xs_check.specs.Passes.{sheet_chain_fault};
 
-    ghost finds = { λ _. SheetLongChains };
+    ghost finds = { λ _. sheet_chain_fault };
 
     fn look(&self, alloc: Global, item: &List<List<u32>>, at: &Place) -> Result<(), FieldFault> {
         let path = at.path(alloc)?;
@@ -95,7 +98,7 @@ pub fn peg_cycles(
     top: &Path,
 ) -> Result<(), FieldFault>
     requires { top.now ≡ [] }
-    ensures { Finds result (PegCycles parents.now) }
+    ensures { Finds result (peg_cycle_fault parents.now) }
 {
     each(alloc, &PegCycle, parents.items(), top, Field::Sheets)
 }
@@ -103,7 +106,7 @@ pub fn peg_cycles(
 /// The first node that is among its own inputs.
 pub fn node_cycles(alloc: Global, scene: &Scene, top: &Path) -> Result<(), FieldFault>
     requires { top.now ≡ [] }
-    ensures { Finds result (NodeCycles scene.now) }
+    ensures { Finds result (node_cycle_fault scene.now) }
 {
     each(alloc, &NodeCycle, scene.sheets.items(), top, Field::Sheets)
 }
@@ -111,7 +114,7 @@ pub fn node_cycles(alloc: Global, scene: &Scene, top: &Path) -> Result<(), Field
 /// The first sheet that shows itself, by the sheets that each shows.
 pub fn sheet_cycles(alloc: Global, nested: &List<List<u32>>, top: &Path) -> Result<(), FieldFault>
     requires { top.now ≡ [] }
-    ensures { Finds result (SheetCycles nested.now) }
+    ensures { Finds result (sheet_cycle_fault nested.now) }
 {
     no_cycles(alloc, nested, SceneCode::SheetCycle, top, Field::Sheets)
 }
@@ -125,7 +128,7 @@ pub fn long_chains(
     top: &Path,
 ) -> Result<(), FieldFault>
     requires { top.now ≡ [] }
-    ensures { Finds result (LongChains parents.now nested.now) }
+    ensures { Finds result (chain_fault parents.now nested.now) }
 {
     each(alloc, &LongChain, parents.items(), top, Field::Sheets)?;
     no_long_chains(alloc, nested, DEEPEST_NEST, top, Field::Sheets)

@@ -2,7 +2,7 @@
 ghost use Rattle.std.specs.Prelude.{◌≡◌, ◌≢◌, ◌++◌, [], IfOk, OnOk, All, map, length, take, slice_index_or};
 ghost use Rattle.xs_check.specs.Finding.{Finds};
 ghost use Rattle.xs_check.specs.Good.{files_of as names_of};
-ghost use Rattle.xs_check.specs.Passes.{file_path as path_by_number, drawing_path as path_by_place, FilesApart};
+ghost use Rattle.xs_check.specs.Passes.{file_path as path_by_number, drawing_path as path_by_place, file_fault};
 ghost use Rattle.xs_base.specs.First.{IsFirstWithout};
 
 use std::alloc::{AllocError, Global};
@@ -76,9 +76,9 @@ fn file_path(alloc: Global, levels: &[Level], d: usize) -> Result<Path, Memory>
 }
 
 /// The first drawing with the file name of an earlier one.
-#[tactic(auto, unfolding(crate::specs::Passes::FilesApart))]
+#[tactic(auto, unfolding(crate::specs::Passes::file_fault))]
 pub fn files_apart(alloc: Global, levels: &[Level]) -> Result<(), FieldFault>
-    ensures { Finds result (FilesApart levels.now) }
+    ensures { Finds result (file_fault levels.now) }
 {
     let files = files_of(alloc, levels)?;
     match first_repeated(alloc, &files)? {

@@ -1,7 +1,7 @@
 //! What checking finds: the first fault, in the order of the elements of lists.
 ghost use Rattle.std.specs.Prelude.{ℕ};
 ghost use Rattle.std.specs.Prelude.{List as Items};
-ghost use Rattle.xs_check.specs.Finding.{Finding, Finds, EachAt, IsFaultAtFirst};
+ghost use Rattle.xs_check.specs.Finding.{Finding, Finds, in_list, IsFaultAtFirst};
 ghost use Rattle.xs_fault.specs.Paths.{path_of};
 ghost use Rattle.xs_fault.specs.Paths.{index_at};
 ghost use Rattle.xs_fault.specs.Faults.{IsFaultAt};
@@ -20,14 +20,14 @@ pub trait Requirement<T> {
 }
 
 /// The first fault of the elements of the list at `at`, in their order.
-#[tactic(auto, unfolding(crate::specs::Finding::EachAt))]
+#[tactic(auto, unfolding(crate::specs::Finding::in_list))]
 fn each_at<T, R: Requirement<T>>(
     alloc: Global,
     required: &R,
     items: &[T],
     at: &Path,
 ) -> Result<(), FieldFault>
-    ensures { Finds result (EachAt at.now (R.finds required.now) items.now) }
+    ensures { Finds result (in_list at.now (R.finds required.now) items.now) }
 {
     for (i, item) in items.iter().enumerate() {
         let Ok(i) = u32::try_from(i) else {
@@ -49,7 +49,7 @@ pub fn each<T, R: Requirement<T>>(
     at: &Path,
     field: Field,
 ) -> Result<(), FieldFault>
-    ensures { Finds result (EachAt (path_of field at.now) (R.finds required.now) items.now) }
+    ensures { Finds result (in_list (path_of field at.now) (R.finds required.now) items.now) }
 {
     let list = Place::key(at, field).path(alloc)?;
     each_at(alloc, required, items, &list)

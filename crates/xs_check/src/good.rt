@@ -1,10 +1,11 @@
 //! A scene that has been checked.
 ghost use Rattle.std.specs.Prelude.{◌≡◌, IfOk};
 ghost use Rattle.xs_check.specs.Finding.{Finds};
-ghost use Rattle.xs_check.specs.Passes.{Checking};
+ghost use Rattle.xs_check.specs.Passes.{first_fault};
 ghost use Rattle.xs_index.specs.Index.{IsIndexOf};
 
 use crate::cycles::{long_chains, node_cycles, peg_cycles, sheet_cycles};
+use crate::laws::scenes_without_a_fault_are_good;
 use crate::links::{links_of, parents_of};
 use crate::numbers::{Numbers, numbers_of};
 use crate::overlaps::overlaps;
@@ -13,7 +14,6 @@ use crate::sizes::sizes;
 use std::alloc::Global;
 use std::marker::Model;
 use xs_fault::{FieldFault, Path};
-use xs_graph::laws::{chains_are_told_link_by_link, chains_without_a_cycle_are_short};
 use xs_index::Index;
 use xs_scene::{Scene, Sheet};
 
@@ -38,9 +38,9 @@ impl Model for GoodScene {
     ghost invariant = { λ g. IsKept g.scene g.index g.numbers.firsts.items g.numbers.owners.items };
 }
 
-/// The first fault, in the order of the passes, or the index of a scene without one.
-fn first_fault(alloc: Global, scene: &Scene) -> Result<Index, FieldFault>
-    ensures found { Finds result (Checking scene.now) }
+/// The index of a scene without a fault, or its first fault in the order of the passes.
+fn faultless_index(alloc: Global, scene: &Scene) -> Result<Index, FieldFault>
+    ensures found { Finds result (first_fault scene.now) }
     ensures index { IfOk result (IsIndexOf scene.now) }
 {
     sizes(alloc, scene)?;
@@ -62,14 +62,13 @@ fn first_fault(alloc: Global, scene: &Scene) -> Result<Index, FieldFault>
 /// stands; PegCycle, NodeCycle and SheetCycle for what leads back to itself; TooMany where a chain of
 /// pegs or of nested sheets is too long. A refused scene is dropped.
 pub fn check(alloc: Global, s: Scene) -> Result<GoodScene, FieldFault>
-    ensures checked { Finds result (Checking s) }
+    ensures checked { Finds result (first_fault s) }
     ensures same { IfOk result (λ g. g ≡ s) }
 {
-    let index = first_fault(alloc, &s)?;
+    let index = faultless_index(alloc, &s)?;
     // The ranges that the types of the scene keep; no pass goes over every style and name.
     s.in_range();
-    chains_are_told_link_by_link();
-    chains_without_a_cycle_are_short();
+    scenes_without_a_fault_are_good();
     let numbers = numbers_of(alloc, s.levels.items())?;
     Ok(GoodScene {
         scene: s,

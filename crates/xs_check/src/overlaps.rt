@@ -1,6 +1,8 @@
 //! What stands where something earlier stands.
+ghost use Rattle.std.specs.Prelude.{Bool};
+ghost use Rattle.std.specs.Bool.{Decides};
 ghost use Rattle.xs_check.specs.Finding.{Finds};
-ghost use Rattle.xs_check.specs.Passes.{EachApart, Overlaps};
+ghost use Rattle.xs_check.specs.Passes.{apart_fault, overlap_fault};
 ghost use Rattle.xs_fault.specs.Paths.{path_of};
 ghost use Rattle.xs_index.specs.Index.{IsIndexOf};
 
@@ -20,18 +22,19 @@ fn each_apart<T: HasRow>(
     at: &Path,
     field: Field,
 ) -> Result<(), FieldFault>
-    ensures { Finds result (EachApart T.apart (path_of field at.now) items.now) }
+    ensures { (apart : T → T → Bool) → ((a b : T) → Decides (apart a b) (T.apart a b))
+        → Finds result (apart_fault apart (path_of field at.now) items.now) }
 {
     let first = first_shared(alloc, items)?;
     tell_first(alloc, first, SceneCode::Overlap, at, field)
 }
 
 /// The keys of a palette.
-#[derive(Drop)]
+#[derive(Clone, Copy)]
 struct PaletteOverlaps;
 
 impl Requirement<Colours> for PaletteOverlaps {
-    ghost use Rattle.xs_check.specs.Passes.{PaletteOverlaps as Found};
+    ghost use Rattle.xs_check.specs.Passes.{palette_overlap_fault as Found};
 
     ghost finds = { λ _. Found };
 
@@ -42,11 +45,11 @@ impl Requirement<Colours> for PaletteOverlaps {
 }
 
 /// The keys of a peg.
-#[derive(Drop)]
+#[derive(Clone, Copy)]
 struct PegOverlaps;
 
 impl Requirement<Peg> for PegOverlaps {
-    ghost use Rattle.xs_check.specs.Passes.{PegOverlaps as Found};
+    ghost use Rattle.xs_check.specs.Passes.{peg_overlap_fault as Found};
 
     ghost finds = { λ _. Found };
 
@@ -57,11 +60,11 @@ impl Requirement<Peg> for PegOverlaps {
 }
 
 /// The cells of a column.
-#[derive(Drop)]
+#[derive(Clone, Copy)]
 struct ColumnOverlaps;
 
 impl Requirement<Column> for ColumnOverlaps {
-    ghost use Rattle.xs_check.specs.Passes.{ColumnOverlaps as Found};
+    ghost use Rattle.xs_check.specs.Passes.{column_overlap_fault as Found};
 
     ghost finds = { λ _. Found };
 
@@ -72,11 +75,11 @@ impl Requirement<Column> for ColumnOverlaps {
 }
 
 /// The pegs and the columns of a sheet.
-#[derive(Drop)]
+#[derive(Clone, Copy)]
 struct SheetOverlaps;
 
 impl Requirement<Sheet> for SheetOverlaps {
-    ghost use Rattle.xs_check.specs.Passes.{SheetOverlaps as Found};
+    ghost use Rattle.xs_check.specs.Passes.{sheet_overlap_fault as Found};
 
     ghost finds = { λ _. Found };
 
@@ -95,7 +98,7 @@ impl Requirement<Sheet> for SheetOverlaps {
 
 /// The first thing that stands where an earlier one stands, found list by list.
 fn first_overlap(alloc: Global, scene: &Scene) -> Result<(), FieldFault>
-    ensures { Finds result (Overlaps scene.now) }
+    ensures { Finds result (overlap_fault scene.now) }
 {
     let top = Path::root(alloc);
     each(
@@ -119,7 +122,7 @@ fn first_overlap(alloc: Global, scene: &Scene) -> Result<(), FieldFault>
 /// do: only then is the first of them looked for.
 pub fn overlaps(alloc: Global, scene: &Scene, index: &Index) -> Result<(), FieldFault>
     requires { IsIndexOf scene.now index.now }
-    ensures { Finds result (Overlaps scene.now) }
+    ensures { Finds result (overlap_fault scene.now) }
 {
     if index_apart(index) {
         files_apart(alloc, scene.levels.items())

@@ -1,7 +1,8 @@
 //! Lists that are too long.
-ghost use Rattle.xs_check.specs.Finding.{Finds, IfThere};
+ghost use Rattle.std.specs.Prelude.{◌≡◌, []};
+ghost use Rattle.xs_check.specs.Finding.{Finds, if_there};
 ghost use Rattle.xs_base.specs.declared.limits.TheConstants.{MOST_TERMINALS};
-ghost use Rattle.xs_check.specs.Passes.{AtMost, Sizes};
+ghost use Rattle.xs_check.specs.Passes.{length_fault, sheet_size_fault, size_fault};
 
 use crate::finding::{Requirement, each};
 use std::alloc::Global;
@@ -15,7 +16,7 @@ use xs_scene::{Colours, Node, Ref, Scene, Sheet};
 
 /// TooMany at a place where the list there is longer than its limit.
 fn at_most<T>(alloc: Global, limit: usize, at: &Place, list: &List<T>) -> Result<(), FieldFault>
-    ensures { Finds result (AtMost limit at.now list.now) }
+    ensures { Finds result (length_fault limit at.now list.now) }
 {
     if list.items().len() <= limit {
         Ok(())
@@ -25,11 +26,11 @@ fn at_most<T>(alloc: Global, limit: usize, at: &Place, list: &List<T>) -> Result
 }
 
 /// The sizes of the lists of a palette.
-#[derive(Drop)]
+#[derive(Clone, Copy)]
 struct PaletteSizes;
 
 impl Requirement<Colours> for PaletteSizes {
-    ghost use Rattle.xs_check.specs.Passes.{PaletteSizes as Found};
+    ghost use Rattle.xs_check.specs.Passes.{palette_size_fault as Found};
 
     ghost finds = { λ _. Found };
 
@@ -46,11 +47,11 @@ impl Requirement<Colours> for PaletteSizes {
 }
 
 /// The size of the list of a node.
-#[derive(Drop)]
+#[derive(Clone, Copy)]
 struct NodeSizes;
 
 impl Requirement<Node> for NodeSizes {
-    ghost use Rattle.xs_check.specs.Passes.{NodeSizes as Found};
+    ghost use Rattle.xs_check.specs.Passes.{node_size_fault as Found};
 
     ghost finds = { λ _. Found };
 
@@ -88,7 +89,7 @@ impl Requirement<Node> for NodeSizes {
 
 /// The size of what a sheet lists to be rendered.
 fn out_size(alloc: Global, at: &Place, out: &Option<List<Ref>>) -> Result<(), FieldFault>
-    ensures { Finds result (IfThere (AtMost MOST_TERMINALS at.now) out.now) }
+    ensures { Finds result (if_there (length_fault MOST_TERMINALS at.now) out.now) }
 {
     match out {
         Some(list) => at_most(alloc, MOST_TERMINALS, at, list),
@@ -96,51 +97,47 @@ fn out_size(alloc: Global, at: &Place, out: &Option<List<Ref>>) -> Result<(), Fi
     }
 }
 
+/// The sizes of the lists of the sheet at a path.
+fn of_sheet(alloc: Global, sheet: &Sheet, at: &Path) -> Result<(), FieldFault>
+    ensures { Finds result (sheet_size_fault at.now sheet.now) }
+{
+    let columns = Place::key(at, Field::Columns);
+    at_most(alloc, MOST_COLUMNS, &columns, &sheet.columns)?;
+    let nodes = Place::key(at, Field::Nodes);
+    at_most(alloc, MOST_NODES, &nodes, &sheet.nodes)?;
+    each(alloc, &NodeSizes, sheet.nodes.items(), at, Field::Nodes)?;
+    out_size(alloc, &Place::key(at, Field::Out), &sheet.out)
+}
+
 /// The sizes of the lists of a sheet.
-#[derive(Drop)]
+#[derive(Clone, Copy)]
 struct SheetSizes;
 
 impl Requirement<Sheet> for SheetSizes {
-    ghost use Rattle.xs_check.specs.Passes.{SheetSizes as Found};
+    ghost use Rattle.xs_check.specs.Passes.{sheet_size_fault as Found};
 
     ghost finds = { λ _. Found };
 
     fn look(&self, alloc: Global, item: &Sheet, at: &Place) -> Result<(), FieldFault> {
         let path = at.path(alloc)?;
-        at_most(
-            alloc,
-            MOST_COLUMNS,
-            &Place::key(&path, Field::Columns),
-            &item.columns,
-        )?;
-        at_most(
-            alloc,
-            MOST_NODES,
-            &Place::key(&path, Field::Nodes),
-            &item.nodes,
-        )?;
-        each(alloc, &NodeSizes, item.nodes.items(), &path, Field::Nodes)?;
-        out_size(alloc, &Place::key(&path, Field::Out), &item.out)
+        of_sheet(alloc, item, &path)
     }
+}
+
+/// The first list that is too long, from the object at `top`.
+fn of_scene(alloc: Global, scene: &Scene, top: &Path) -> Result<(), FieldFault>
+    requires { top.now ≡ [] }
+    ensures { Finds result (size_fault scene.now) }
+{
+    let palettes = scene.palettes.items();
+    each(alloc, &PaletteSizes, palettes, top, Field::Palettes)?;
+    each(alloc, &SheetSizes, scene.sheets.items(), top, Field::Sheets)
 }
 
 /// The first list that is too long.
 pub fn sizes(alloc: Global, scene: &Scene) -> Result<(), FieldFault>
-    ensures { Finds result (Sizes scene.now) }
+    ensures { Finds result (size_fault scene.now) }
 {
     let top = Path::root(alloc);
-    each(
-        alloc,
-        &PaletteSizes,
-        scene.palettes.items(),
-        &top,
-        Field::Palettes,
-    )?;
-    each(
-        alloc,
-        &SheetSizes,
-        scene.sheets.items(),
-        &top,
-        Field::Sheets,
-    )
+    of_scene(alloc, scene, &top)
 }

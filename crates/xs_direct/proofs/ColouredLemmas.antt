@@ -9,13 +9,13 @@ use Rattle.xs_pixel.specs.Points.{Point}
 use Rattle.xs_scene.specs.declared.level.Kind.{Kind}
 use Rattle.xs_scene.specs.declared.level.Kind.TheVariants.{Colour, Cm32}
 use Rattle.xs_scene.specs.Records.{SceneRecord, LevelRecord, ColoursRecord}
-use Rattle.xs_meaning.specs.Drawings.{drawing_pixel, written_colouring, colours_of, palette_of, level_of, no_colours}
+use Rattle.xs_meaning.specs.Drawings.{drawing_pixel, seen_under, AreColouredAsWritten, written_colouring, colours_of, palette_of, level_of, no_colours}
 use Rattle.xs_meaning.specs.Palettes.{Colouring, as_written}
 use Rattle.xs_rawfile.specs.declared.drawing.RawKind.{RawKind}
 use Rattle.xs_rawfile.specs.declared.drawing.RawKind.TheVariants as raw_kind
 use Rattle.xs_rawfile.specs.Held.{Held, IsIn, slot_in, picture_of, content_of, coloured_of}
 use Rattle.xs_rawfile.specs.Raw.{Raw}
-use Rattle.xs_direct.specs.Coloured.{seen_under, AreColouredAsWritten, AreAsWritten, IsOfKind, IsOfLevel, IsOfScene}
+use Rattle.xs_direct.specs.Coloured.{AreAsWritten, IsOfKind, IsOfLevel, IsOfScene}
 use Rattle.xs_direct.specs.Pictures.{pictures_in}
 use Rattle.xs_direct.proofs.HeldLemmas.{mapped, each_slot}
 

@@ -13,16 +13,6 @@ use Rattle.xs_rawfile.specs.declared.drawing.RawKind.TheVariants as raw_kind
 use Rattle.xs_rawfile.specs.Held.{Held, IsIn}
 use Rattle.xs_rawfile.specs.Raw.{Raw}
 
--- the pixels of a content: those of a colour file, or its words under a colouring
-abbrev pub seen_under : Option Colouring → Content → List Channels
-seen_under None content = pixels_in content
-seen_under (Some colouring) content = map (colour_under colouring) (words_in content)
-
--- each picture's coloured pixels are those of its file, or its words under its palette as it is written
-abbrev pub AreColouredAsWritten : SceneRecord → Pictures → Type 0
-AreColouredAsWritten s pictures =
-    (d : ℕ) → IfSome (pictures d) (λ q. q.coloured ≡ seen_under (written_colouring s d) q.content)
-
 -- palettes that give each style the same pixel as those of a scene do as they are written
 abbrev pub AreAsWritten : List (List Channels) → SceneRecord → Type 0
 AreAsWritten palettes s =

@@ -8,8 +8,8 @@ ghost use Rattle.xs_rawfile.specs.Held.{Held, content_of, picture_of};
 ghost use Rattle.xs_rawfile.specs.Raw.{Raw, Fills};
 ghost use Rattle.xs_rawfile.specs.declared.drawing.RawKind.{RawKind};
 ghost use Rattle.xs_scene.specs.Records.{SceneRecord};
-ghost use Rattle.xs_meaning.specs.Drawings.{drawing_pixel, level_of, written_colouring};
-ghost use Rattle.xs_direct.specs.Coloured.{AreAsWritten, AreColouredAsWritten, IsOfLevel, IsOfScene};
+ghost use Rattle.xs_meaning.specs.Drawings.{drawing_pixel, level_of, written_colouring, AreColouredAsWritten};
+ghost use Rattle.xs_direct.specs.Coloured.{AreAsWritten, IsOfLevel, IsOfScene};
 ghost use Rattle.xs_direct.specs.Pictures.{pictures_in};
 
 /// What the bytes of a drawing of a file hold is pixels, where they are not words.

@@ -1,22 +1,33 @@
--- Whether a node lies on a cycle is settled: a path leads through nodes below one more and more numbers.
-use Rattle.std.proofs.Common.{◌≡◌, ◌<◌, ◌⊎◌, ℕ, zero, suc, [], Contains, length, refl, sym, subst, inl, inr, arith}
-use Rattle.std.proofs.lemmas.Bool.{cases_lt}
+-- Whether a node lies on a cycle is tested: a path leads through nodes below one more and more numbers.
+use Rattle.std.proofs.Common.{◌≡◌, ◌<◌, ◌⊎◌, ◌&&◌, ◌||◌, ◌↔◌, ℕ, zero, suc, Bool, true, false, [], Contains, Decides, length, refl, sym, subst, inl, inr, arith}
+use Rattle.std.proofs.lemmas.Bool.{cases_lt, eqb-true}
+use Rattle.std.proofs.lemmas.Cmp.{nat_eq_equiv}
+use Rattle.std.proofs.lemmas.Map.Views.{Contains-from_any, list_any-from_Contains}
 use Rattle.std.proofs.lemmas.List.{get_or_past}
 use Rattle.xs_graph.specs.Paths.{Links, successors, Leads, Reaches, LiesOnCycle}
-use Rattle.xs_graph.specs.Settled.{Settled}
-use Rattle.xs_graph.proofs.Settled.{settled_like, settled_both, settled_either, settled_contains}
+use Rattle.xs_graph.specs.Cycles.{leads_through, lies_on_cycle}
 
 -- a path of one step or more whose nodes between the ends are all below a number
 Through : Links → ℕ → ℕ → ℕ → Type 0
 Through links zero a b = Contains (successors links a) b
 Through links (suc k) a b = Through links k a b ⊎ (Through links k a k × Through links k k b)
 
-settled_through : (links : Links) (k a b : ℕ) → Settled (Through links k a b)
-unfolding Through
-settled_through links zero a b = settled_contains (successors links a) b
-settled_through links (suc k) a b =
-    settled_either _ _ (settled_through links k a b)
-    (settled_both _ _ (settled_through links k a k) (settled_through links k k b))
+both_decided : (P Q : Type 0) (p q : Bool) → Decides p P → Decides q Q → Decides (p && q) (P × Q)
+both_decided P Q true q p_is q_is = (λ yes. (p_is.0 refl, q_is.0 yes), λ both. q_is.1 both.1)
+both_decided P Q false q p_is q_is = (λ no. absurd (cc), λ both. p_is.1 both.0)
+
+either_decided : (P Q : Type 0) (p q : Bool) → Decides p P → Decides q Q → Decides (p || q) (P ⊎ Q)
+either_decided P Q true q p_is q_is = (λ yes. inl (p_is.0 refl), λ either. refl)
+either_decided P Q false q p_is q_is =
+    (λ yes. inr (q_is.0 yes), λ either. elim either [ inl holds ↦ absurd (let no = p_is.1 holds in cc) | inr holds ↦ q_is.1 holds ])
+
+through_decided : (links : Links) (k a b : ℕ) → Decides (leads_through links k a b) (Through links k a b)
+unfolding Through leads_through
+through_decided links zero a b =
+    (Contains-from_any eqb-true b (successors links a), list_any-from_Contains nat_eq_equiv b (successors links a))
+through_decided links (suc k) a b =
+    either_decided _ _ _ _ (through_decided links k a b)
+    (both_decided _ _ _ _ (through_decided links k a k) (through_decided links k k b))
 
 -- ---- such a path is a path
 
@@ -89,17 +100,15 @@ linking_is_below links a b (k, inside, is) =
           absurd (omega arith)
     ]
 
-leads_through : (links : Links) (steps a b : ℕ) → Leads links (suc steps) a b → Through links (length links) a b
+path_through : (links : Links) (steps a b : ℕ) → Leads links (suc steps) a b → Through links (length links) a b
 unfolding Leads Joins
-leads_through links zero a b (c, targets, is) =
+path_through links zero a b (c, targets, is) =
     through_named links _ a b (subst (λ (x : ℕ). Contains (successors links a) x) is targets)
-leads_through links (suc steps) a b (c, targets, (d, next, path)) =
+path_through links (suc steps) a b (c, targets, (d, next, path)) =
     joins_below links _ c (linking_is_below links c d next) a b
-    (through_named links _ a c targets) (leads_through links steps c b (d, next, path))
+    (through_named links _ a c targets) (path_through links steps c b (d, next, path))
 
-pub settled_cycle : (links : Links) (a : ℕ) → Settled (LiesOnCycle links a)
-settled_cycle links a =
-    settled_like (Through links (length links) a a) (LiesOnCycle links a)
-    (through_reaches links (length links) a a)
-    (λ cycle. leads_through links cycle.steps a a cycle.path)
-    (settled_through links (length links) a a)
+pub cycle_told : (links : Links) (a : ℕ) → (lies_on_cycle links a ≡ true) ↔ LiesOnCycle links a
+cycle_told links a =
+    let told = through_decided links (length links) a a in
+    (λ yes. through_reaches links (length links) a a (told.0 yes), λ cycle. told.1 (path_through links cycle.steps a a cycle.path))

@@ -2,5 +2,4 @@ mod ChainMarks
 mod Searches
 mod Levels
 mod PathLengths
-mod Settled
 mod Cycles

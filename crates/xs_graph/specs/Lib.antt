@@ -1,4 +1,4 @@
-pub mod Settled
+pub mod Cycles
 pub mod Paths
 pub mod Search
 pub mod Labels

@@ -1,8 +1,7 @@
 //! The first node on a cycle, by labels of the nodes: no node is on one before the first that links to a node
 //! with its own label. That no label rises along a link and that this node is on a cycle is tested; where it is
 //! not so, each node is asked whether a path leads back to it.
-ghost use Rattle.std.specs.Prelude.{◌≡◌, ◌<◌, ◌≤◌, ◌↔◌, ℕ, IfOk, IfSome, IsTrue, All, length, slice_index};
-ghost use Rattle.std.specs.Prelude.{List as Items};
+ghost use Rattle.std.specs.Prelude.{◌≡◌, ◌<◌, ◌≤◌, ◌↔◌, IfOk, IfSome, IsTrue, All, length, slice_index};
 ghost use Rattle.xs_graph.specs.Labels.{NeverRise, Falls, IsToldBy};
 ghost use Rattle.xs_base.specs.First.{IsFirstWithout};
 ghost use Rattle.xs_graph.specs.Paths.{LiesOnCycle};
@@ -87,12 +86,18 @@ fn is_on_cycle(
 pub enum ByLabels {
     /// The first node on a cycle, or that there is none.
     First(Option<usize>),
-    /// Labels do not show which node is the first on a cycle.
+    /// These labels do not show which node is the first on a cycle: one rises along a link, or the first node that
+    /// links to one with a label that is not smaller lies on no cycle.
     Nothing,
 }
 
-/// What some labels tell of the first node on a cycle.
-fn told_by(alloc: Global, links: &List<List<u32>>, labels: &[u32]) -> Result<ByLabels, AllocError>
+/// The quick way: what these labels of the nodes tell of the first node on a cycle. Where they tell something, it is
+/// what `first_on_cycle` answers; they tell nothing only where they do not show it. A node past the labels has 0.
+pub fn first_by_labels(
+    alloc: Global,
+    links: &List<List<u32>>,
+    labels: &[u32],
+) -> Result<ByLabels, AllocError>
     ensures { IfOk result (IsToldBy links.now labels.now) }
 {
     let nodes = links.items();
@@ -107,20 +112,12 @@ fn told_by(alloc: Global, links: &List<List<u32>>, labels: &[u32]) -> Result<ByL
     }
 }
 
-/// The quick way: what the labels of one walk over all nodes tell of the first node on a cycle. Where they tell
-/// something, it is what `first_on_cycle` answers.
-pub fn first_by_labels(alloc: Global, links: &List<List<u32>>) -> Result<ByLabels, AllocError>
-    ensures { IfOk result (λ told. (labels : Items ℕ) × IsToldBy links.now labels told) }
-{
-    let labels = labels_of(alloc, links)?;
-    told_by(alloc, links, labels.as_slice())
-}
-
 /// The first node from which a path leads back to it, if there is one.
 pub fn first_on_cycle(alloc: Global, links: &List<List<u32>>) -> Result<Option<usize>, AllocError>
     ensures { IfOk result (IsFirstWithout (λ a. LiesOnCycle links.now a → ⊥) (length links.now)) }
 {
-    match first_by_labels(alloc, links)? {
+    let labels = labels_of(alloc, links)?;
+    match first_by_labels(alloc, links, &labels)? {
         ByLabels::First(first) => Ok(first),
         ByLabels::Nothing => first_by_search(alloc, links),
     }

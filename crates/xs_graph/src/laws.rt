@@ -1,12 +1,11 @@
 //! Laws of paths, cycles and chains.
 ghost use Rattle.std.specs.Prelude.{◌≡◌, ◌<◌, ◌↔◌, ℕ, true, Contains, length};
 ghost use Rattle.xs_graph.specs.Paths.{Links, successors, LiesOnCycle, HasChain, has_chain};
-ghost use Rattle.xs_graph.specs.Settled.{Settled};
+ghost use Rattle.xs_graph.specs.Cycles.{lies_on_cycle};
 
-/// A node lies on a cycle or not, and a chain begins at it or not.
-pub fn cycles_and_chains_are_settled()
-    ensures cycle { (links : Links) (a : ℕ) → Settled (LiesOnCycle links a) }
-    ensures chain { (links : Links) (steps a : ℕ) → Settled (HasChain links steps a) }
+/// The test for a cycle tells whether a node lies on one.
+pub fn cycles_are_told_node_by_node()
+    ensures { (links : Links) (a : ℕ) → (lies_on_cycle links a ≡ true) ↔ LiesOnCycle links a }
 {}
 
 /// The test for a chain tells whether one begins at a node.

@@ -11,3 +11,4 @@ mod walk;
 pub use chains::first_long;
 pub use labels::{ByLabels, first_by_labels, first_on_cycle};
 pub use search::first_by_search;
+pub use walk::labels_of;

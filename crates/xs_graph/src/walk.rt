@@ -1,6 +1,8 @@
 //! A walk over the nodes of a graph, which numbers its strongly connected components by the path-based algorithm:
 //! no node links to one with a greater label, and two have the same label where paths lead from each to the other.
-//! Of the labels nothing is proved: what is told by them is tested first.
+//! Of the labels no more is proved than that each node has one: what is told by them is tested first.
+ghost use Rattle.std.specs.Prelude.{◌≡◌, IfOk, length};
+
 use std::alloc::{AllocError, Global};
 use xs_base::List;
 
@@ -42,10 +44,13 @@ struct Walk<'s> {
     open: Vec<u32>,
     /// Of the open nodes the first of each run whose nodes lead to one another.
     heads: Vec<u32>,
+    ghost labelled: { length labels.items ≡ length links.now },
 }
 
 impl<'s> Walk<'s> {
-    fn new(alloc: Global, links: &'s List<List<u32>>) -> Result<Walk<'s>, AllocError> {
+    fn new(alloc: Global, links: &'s List<List<u32>>) -> Result<Walk<'s>, AllocError>
+        ensures { IfOk result (λ walk. walk.links.now ≡ links.now) }
+    {
         let nodes = links.items().len();
         Ok(Walk {
             links,
@@ -65,7 +70,9 @@ impl<'s> Walk<'s> {
         targets.items().get(stop.looked).copied()
     }
 
-    fn meet(&mut self, node: u32) -> Result<(), AllocError> {
+    fn meet(&mut self, node: u32) -> Result<(), AllocError>
+        ensures { self.new.links.now ≡ self.old.links.now }
+    {
         self.count = self.count.saturating_add(1);
         write(&mut self.met, node, self.count);
         self.open.push(node)?;
@@ -75,7 +82,9 @@ impl<'s> Walk<'s> {
     }
 
     /// Joins the runs from an open node on, to which the walk has come back.
-    fn join(&mut self, node: u32) {
+    fn join(&mut self, node: u32)
+        ensures { self.new.links.now ≡ self.old.links.now }
+    {
         let since = read(&self.met, node);
         for _ in 0..self.heads.len() {
             match self.heads.last() {
@@ -86,7 +95,9 @@ impl<'s> Walk<'s> {
     }
 
     /// Gives the open nodes from a head on the next label.
-    fn label(&mut self, head: u32) {
+    fn label(&mut self, head: u32)
+        ensures { self.new.links.now ≡ self.old.links.now }
+    {
         self.given = self.given.saturating_add(1);
         for _ in 0..self.open.len() {
             let Some(node) = self.open.pop() else {
@@ -100,7 +111,9 @@ impl<'s> Walk<'s> {
     }
 
     /// Follows a link of a node on the path.
-    fn look(&mut self, number: u32) -> Result<(), AllocError> {
+    fn look(&mut self, number: u32) -> Result<(), AllocError>
+        ensures { self.new.links.now ≡ self.old.links.now }
+    {
         if number as usize >= self.met.len() {
             return Ok(());
         }
@@ -114,7 +127,9 @@ impl<'s> Walk<'s> {
     }
 
     /// Leaves a node whose links were all looked at.
-    fn leave(&mut self, node: u32) {
+    fn leave(&mut self, node: u32)
+        ensures { self.new.links.now ≡ self.old.links.now }
+    {
         if self.heads.last() == Some(&node) {
             let _ = self.heads.pop();
             self.label(node);
@@ -122,7 +137,9 @@ impl<'s> Walk<'s> {
     }
 
     /// Follows the next link of a node on the path, or leaves it.
-    fn step(&mut self, stop: Stop) -> Result<(), AllocError> {
+    fn step(&mut self, stop: Stop) -> Result<(), AllocError>
+        ensures { self.new.links.now ≡ self.old.links.now }
+    {
         match self.next_at(stop) {
             Some(number) => {
                 let looked = stop.looked.saturating_add(1);
@@ -137,7 +154,9 @@ impl<'s> Walk<'s> {
     }
 
     /// Walks wherever paths lead from a node.
-    fn walk_from(&mut self, node: u32) -> Result<(), AllocError> {
+    fn walk_from(&mut self, node: u32) -> Result<(), AllocError>
+        ensures { self.new.links.now ≡ self.old.links.now }
+    {
         if read(&self.met, node) > 0 {
             return Ok(());
         }
@@ -152,8 +171,11 @@ impl<'s> Walk<'s> {
     }
 }
 
-/// The labels of some nodes.
-pub(crate) fn labels_of(alloc: Global, links: &List<List<u32>>) -> Result<Vec<u32>, AllocError> {
+/// A label for each node, by a walk over all of them, by which `first_by_labels` is meant to tell the first node on
+/// a cycle.
+pub fn labels_of(alloc: Global, links: &List<List<u32>>) -> Result<Vec<u32>, AllocError>
+    ensures { IfOk result (λ labels. length labels.items ≡ length links.now) }
+{
     let mut walk = Walk::new(alloc, links)?;
     for i in 0..links.items().len() {
         let Ok(node) = u32::try_from(i) else {

@@ -1,10 +1,11 @@
-ghost use Rattle.std.specs.Prelude.{◌≡◌, ◌≤◌, ℕ, List, [], Option, None, Some, IfSome, ⊤};
+ghost use Rattle.std.specs.Prelude.{◌≡◌, ◌≤◌, ◌+◌, ℕ, List, [], length, Option, None, Some, IfSome, ⊤};
 ghost use Rattle.std.specs.IoError.{error_kind};
 ghost use Rattle.xs_outside.specs.Told.{Rose};
 ghost use Rattle.xs_outside.specs.Answers.{IsFetched, IsAsked, KeepsFetch};
 ghost use Rattle.xs_outside.specs.Counts.{CountsFetch};
-ghost use Rattle.xs_host.specs.Opening.{opening_answer, reading_answer};
+ghost use Rattle.xs_host.specs.Opening.{opening_answer, reading_answer, IsReading};
 
+use crate::counted::{Counted, CountsFaults};
 use std::alloc::Global;
 use std::io::{ErrorKind, Read};
 use std::marker::Model;
@@ -52,7 +53,9 @@ fn opening_fault(error: &io::Error) -> Fetched
 /// The answer to a fault of reading a file that is open.
 fn reading_fault(error: &io::Error) -> Fetched
     ensures value { result ≡ reading_answer (error_kind error.now) }
-    ensures of_any_file { (files : Option (List ℕ → Option (List ℕ))) (limit : ℕ) → IsFetched files [] limit ⊤ result }
+    ensures answer { (limit before now : ℕ) → Rose before now → IsReading limit (Rose before now) result }
+    ensures of_any_file { (files : Option (List ℕ → Option (List ℕ))) (limit before now : ℕ) → Rose before now
+        → IsFetched files [] limit (Rose before now) result }
 {
     match error.kind() {
         ErrorKind::OutOfMemory => Fetched::Memory,
@@ -60,20 +63,34 @@ fn reading_fault(error: &io::Error) -> Fetched
     }
 }
 
-/// The bytes of an open file, if there are at most `limit`. At most `limit + 1` of them are read, so
-/// that a file without end is too long.
-fn read_open<F: Read + Drop>(file: F, alloc: Global, limit: u64) -> Fetched
-    ensures within { IsFetched None [] limit ⊤ result }
-    ensures whole { IfSome (F.remaining file) (λ bytes. IsFetched (Some (λ _. Some bytes)) [] limit ⊤ result) }
+/// The bytes that a reader gives to its end, if there are at most `limit`. It gives no more than one
+/// byte past the limit.
+fn read_front<F: Read + CountsFaults>(front: &mut F, alloc: Global, limit: u64) -> Fetched
+    requires { IfSome (F.remaining front.old) (λ bytes. length bytes ≤ limit + 1) }
+    ensures answer { IsReading limit (Rose (F.faults front.old) (F.faults front.new)) result }
+    ensures whole { IfSome (F.remaining front.old) (λ bytes.
+        IsFetched (Some (λ _. Some bytes)) [] limit (Rose (F.faults front.old) (F.faults front.new)) result) }
 {
+    let before = front.faults_so_far();
     let mut bytes = Vec::new(alloc);
-    if let Err(error) = file.take(limit.saturating_add(1)).read_to_end(&mut bytes) {
-        return reading_fault(&error);
+    match front.read_to_end(&mut bytes) {
+        Ok(_) if bytes.len() as u64 <= limit => Fetched::Bytes(bytes),
+        Ok(_) => Fetched::TooLong,
+        Err(error) if front.faults_so_far() > before => reading_fault(&error),
+        Err(_) => Fetched::Memory,
     }
-    if bytes.len() as u64 > limit {
-        return Fetched::TooLong;
-    }
-    Fetched::Bytes(bytes)
+}
+
+/// The bytes of an open file, if there are at most `limit`, and the file. At most `limit + 1` of them
+/// are read, so that a file without end is too long.
+fn read_open<F: Read + CountsFaults + Drop>(file: F, alloc: Global, limit: u64) -> (Fetched, F)
+    ensures answer { IsReading limit (Rose (F.faults file) (F.faults result.1)) result.0 }
+    ensures whole { IfSome (F.remaining file) (λ bytes.
+        IsFetched (Some (λ _. Some bytes)) [] limit (Rose (F.faults file) (F.faults result.1)) result.0) }
+{
+    let mut front = file.take(limit.saturating_add(1));
+    let answer = read_front(&mut front, alloc, limit);
+    (answer, front.into_inner())
 }
 
 /// The bytes of the file of this name, if there are at most `limit`.
@@ -81,7 +98,7 @@ fn read_file<R: Files>(rt: &R, alloc: Global, name: &str, limit: u64) -> Fetched
     ensures { IsFetched None name.now limit ⊤ result }
 {
     match fs::open(rt, name) {
-        Ok(file) => read_open(file, alloc, limit),
+        Ok(file) => read_open(Counted::new(file), alloc, limit).0,
         Err(error) => opening_fault(&error),
     }
 }

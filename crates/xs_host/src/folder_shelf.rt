@@ -1,4 +1,6 @@
 ghost use Rattle.std.specs.Prelude.{◌≡◌, ◌≤◌, ◌++◌, None, IfOk, codes, string_bytes};
+ghost use Rattle.std.specs.Result.{OnOk};
+ghost use Rattle.std.specs.Io.KnownBytes.{Appends};
 ghost use Rattle.xs_outside.specs.Told.{Rose};
 ghost use Rattle.xs_outside.specs.Answers.{IsPut, KeepsPut};
 ghost use Rattle.xs_outside.specs.Counts.{CountsPut};
@@ -55,12 +57,26 @@ fn replace_file<R: Files>(rt: &R, beside: &str, name: &str, bytes: &[u8]) -> io:
     written
 }
 
+/// Writes these bytes to a file, and lets it take its name once it holds all of them, never before.
+fn write_then_name<W: Write + Drop, N: FnOnce(W) -> io::Result<()>>(
+    mut file: W,
+    bytes: &[u8],
+    take_name: N,
+) -> io::Result<()>
+    requires { (whole : W) → Appends (W.contents file) (W.contents whole) bytes.now → N.pre take_name whole }
+    ensures { OnOk result ((whole : W) × Appends (W.contents file) (W.contents whole) bytes.now × N.post take_name whole result) }
+{
+    file.write_all(bytes)?;
+    take_name(file)
+}
+
 /// Writes these bytes to the file `beside`, and gives it the name.
 fn write_and_rename<R: Files>(rt: &R, beside: &str, name: &str, bytes: &[u8]) -> io::Result<()> {
-    let mut file = fs::create(rt, beside)?;
-    file.write_all(bytes)?;
-    drop(file);
-    fs::rename(rt, beside, name)
+    let file = fs::create(rt, beside)?;
+    write_then_name(file, bytes, |file| {
+        drop(file);
+        fs::rename(rt, beside, name)
+    })
 }
 
 #[tactic(auto, unfolding(xs_outside::specs::Told::more))]

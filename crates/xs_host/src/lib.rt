@@ -3,6 +3,7 @@
 //! xs_outside demand, and to tell nothing of what a folder or a terminal holds.
 #![tactic(auto)]
 
+mod counted;
 mod folder_library;
 mod folder_shelf;
 mod out_notes;

@@ -1,6 +1,6 @@
-use Rattle.std.specs.Prelude.{ℕ, ◌+◌, ◌-◌, nat_lt, Option, Some, None, List, [], ◌∷◌, map, take, length, sum_by, slice_index_or, option_map, option_and_then, if◌then◌else◌}
+use Rattle.std.specs.Prelude.{◌≡◌, ℕ, ◌+◌, ◌-◌, nat_lt, Option, Some, None, IfSome, List, [], ◌∷◌, map, take, length, sum_by, slice_index_or, option_map, option_and_then, if◌then◌else◌}
 use Rattle.xs_pixel.specs.Channels.{Channels, clear}
-use Rattle.xs_pixel.specs.Picture.{Picture, Pictures, pixels_in, words_in, at_point}
+use Rattle.xs_pixel.specs.Picture.{Content, Picture, Pictures, pixels_in, words_in, at_point}
 use Rattle.xs_scene.specs.declared.level.Kind.{Kind}
 use Rattle.xs_scene.specs.declared.level.Kind.TheVariants.{Colour, Cm32}
 use Rattle.xs_scene.specs.Records.{SceneRecord, LevelRecord, ColoursRecord}
@@ -44,3 +44,13 @@ written_colouring s d = option_map as_written (colours_of s d)
 
 abbrev pub colouring_at : SceneRecord → ℕ → ℕ → Dropped → Option Colouring
 colouring_at s d row f = option_map (λ c. style_at c row f) (colours_of s d)
+
+-- the pixels of a content: those of a colour file, or its words under a colouring
+abbrev pub seen_under : Option Colouring → Content → List Channels
+seen_under None content = pixels_in content
+seen_under (Some colouring) content = map (colour_under colouring) (words_in content)
+
+-- each picture's coloured pixels are those of its file, or its words under its palette as it is written
+abbrev pub AreColouredAsWritten : SceneRecord → Pictures → Type 0
+AreColouredAsWritten s pictures =
+    (d : ℕ) → IfSome (pictures d) (λ q. q.coloured ≡ seen_under (written_colouring s d) q.content)

@@ -7,4 +7,5 @@
 pub mod examples;
 pub mod expressions;
 pub mod filters;
+pub mod pairs;
 pub mod rules;

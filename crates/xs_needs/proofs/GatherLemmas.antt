@@ -14,7 +14,7 @@ use Rattle.indexmap.specs.IndexSet.{insert_key}
 use Rattle.xs_needs.specs.declared.found.Known.{Known}
 use Rattle.xs_step.specs.declared.spot.Spot.{Spot}
 use Rattle.xs_needs.specs.Found.{AreWhole, IsSound, KeepsFlags, IsKept}
-use Rattle.xs_needs.specs.Spots.{same_spot}
+use Rattle.xs_step.specs.Spots.{same_spot}
 use Rattle.xs_needs.proofs.Remembered.{listed-kept}
 use Rattle.xs_base.specs.Once.{fresh, with_one, with_each}
 use Rattle.xs_needs.specs.Shown.{Showing, drawings_in, drawings_over, showing_staying, first_stays, second_stays}

@@ -7,7 +7,7 @@ use Rattle.xs_check.specs.Good.{files_of}
 use Rattle.xs_needs.specs.declared.found.Found.{Found}
 use Rattle.xs_needs.specs.declared.found.Known.{Known}
 use Rattle.xs_needs.specs.Shown.{drawings_at, is_clear_at}
-use Rattle.xs_needs.specs.Spots.{same_spot}
+use Rattle.xs_step.specs.Spots.{same_spot}
 
 -- each flag says whether its spot is clear
 abbrev pub AreRight : SceneRecord → List (Spot × Bool) → Type 0

@@ -7,7 +7,7 @@ ghost use Rattle.xs_meaning.specs.Ends.{AllEnd};
 ghost use Rattle.xs_needs.specs.Found.{AreRight, KeepsFlags};
 ghost use Rattle.xs_meaning.specs.Palettes.{is_clear_pixel, pixel_of};
 ghost use Rattle.xs_needs.specs.Shown.{is_clear_at, shown, showing_by};
-ghost use Rattle.xs_needs.specs.Spots.{same_spot};
+ghost use Rattle.xs_step.specs.Spots.{same_spot};
 ghost use Rattle.xs_step.specs.Spots.{input_spot};
 ghost use Rattle.xs_step.specs.Steps.{AreThere};
 ghost use Rattle.xs_step.specs.Ways.{LeadsTo, WaysEnd};

@@ -4,7 +4,7 @@ ghost use Rattle.std.specs.Prelude.{◌≡◌, [], IfOk, OnOk};
 ghost use Rattle.indexmap.specs.IndexMap.{get, insert_entry};
 ghost use Rattle.indexmap.specs.IndexSet.{contains, insert_key};
 ghost use Rattle.xs_base.specs.Once.{with_one};
-ghost use Rattle.xs_needs.specs.Spots.{same_spot};
+ghost use Rattle.xs_step.specs.Spots.{same_spot};
 
 use indexmap::{IndexMap, IndexSet};
 use std::alloc::Global;

@@ -6,7 +6,7 @@ ghost use Rattle.xs_meaning.specs.Ends.{AllEnd};
 ghost use Rattle.xs_meaning.specs.Expressions.{staying as staying_of};
 ghost use Rattle.xs_needs.specs.Found.{IsKept, IsSound};
 ghost use Rattle.xs_base.specs.Once.{with_each};
-ghost use Rattle.xs_needs.specs.Spots.{same_spot};
+ghost use Rattle.xs_step.specs.Spots.{same_spot};
 ghost use Rattle.xs_needs.specs.Shown.{drawings_at, drawings_in, drawings_over, is_clear_at, showing_by, showing_staying, shown};
 ghost use Rattle.xs_step.specs.Spots.{input_spot};
 ghost use Rattle.xs_step.specs.Steps.{AreThere};

@@ -1,31 +1,11 @@
 //! Which inputs of a pair stay where some are clear.
 
 ghost use Rattle.std.specs.Prelude.{◌≡◌};
-ghost use Rattle.xs_meaning.specs.Expressions.{with_clear_first, with_clear_second};
 ghost use Rattle.xs_meaning.specs.Expressions.{staying as staying_of};
 ghost use Rattle.xs_needs.specs.Shown.{first_stays, second_stays, is_clear_pair};
 
+use xs_meaning::pairs::{first_stays_alone, second_stays_alone};
 use xs_pixel::Op;
-
-/// Whether the second input stays where the first is clear.
-fn second_stays_alone(op: Op) -> bool
-    ensures { result ≡ second_stays (with_clear_first op) }
-{
-    match op {
-        Op::Over | Op::Add | Op::Sub | Op::Max => true,
-        Op::Mult | Op::Min | Op::MatteIn | Op::MatteOut => false,
-    }
-}
-
-/// Whether the first input stays where only the second is clear.
-fn first_stays_alone(op: Op) -> bool
-    ensures { result ≡ first_stays (with_clear_second op) }
-{
-    match op {
-        Op::Over | Op::Add | Op::Max | Op::MatteOut => true,
-        Op::Sub | Op::Mult | Op::Min | Op::MatteIn => false,
-    }
-}
 
 /// Whether the first input of a pair stays, and whether the second does, where it is known which of them
 /// are clear.

@@ -1,6 +1,7 @@
 ghost use Rattle.std.specs.Prelude.{◌≡◌, ◌≤◌, ℕ, List, Option};
 ghost use Rattle.xs_outside.specs.Told.{Rose};
 ghost use Rattle.xs_outside.specs.Answers.{IsFetched, IsAsked, KeepsFetch};
+ghost use Rattle.xs_outside.specs.declared.library.Fetched.{Fetched};
 
 use std::alloc::Global;
 
@@ -30,6 +31,10 @@ pub trait Library {
     /// How many faults there were: a number below 2^64 that never falls.
     ghost faults: { Self → ℕ };
 
+    /// What more an implementation says of a call: from this state, of this name and under this limit,
+    /// it may give this answer and leave that state.
+    ghost get_gives: { Self → List ℕ → ℕ → Fetched → Self → Type 0 } = { λ _ _ _ _ _. Unit {0} };
+
     /// The file of this name, if it has at most `limit` bytes.
     fn get(&mut self, alloc: Global, name: &str, limit: u64) -> Fetched
         ensures answer { IsFetched (files self.old) name.now limit
@@ -37,5 +42,6 @@ pub trait Library {
         ensures asked { IsAsked (asked self.old) (asked self.new) name.now result }
         ensures same { files self.new ≡ files self.old }
         ensures later { faults self.old ≤ faults self.new }
-        ensures keeps { KeepsFetch (faults self.old) (faults self.new) result };
+        ensures keeps { KeepsFetch (faults self.old) (faults self.new) result }
+        ensures gives { get_gives self.old name.now limit result self.new };
 }

@@ -40,13 +40,16 @@ impl<L: Library> Library for QuietLibrary<L> {
 
     ghost faults = { λ q. faults_of q };
 
+    ghost get_gives = { λ q name limit answer later. L.get_gives (inner_of q) name limit answer (inner_of later) };
+
     fn get(&mut self, alloc: Global, name: &str, limit: u64) -> Fetched
         ensures answer { IsFetched None name.now limit (Rose (faults_of self.old) (faults_of self.new)) result }
         ensures asked { IsAsked None None name.now result }
         ensures later { faults_of self.old ≤ faults_of self.new }
         ensures keeps { KeepsFetch (faults_of self.old) (faults_of self.new) result }
 
-        // The answer is one that the library inside may give.
+        // The answer is that of the library inside.
+        ensures gives { L.get_gives (inner_of self.old) name.now limit result (inner_of self.new) }
         ensures inner { IsFetched (L.files (inner_of self.old)) name.now limit
             (Rose (L.faults (inner_of self.old)) (L.faults (inner_of self.new))) result }
         ensures inner_asked { IsAsked (L.asked (inner_of self.old)) (L.asked (inner_of self.new)) name.now result }

@@ -7,8 +7,8 @@ ghost use Rattle.xs_pixel.specs.PixelRows.{pixels};
 use crate::fault::PaletteFault;
 use std::alloc::Global;
 use std::marker::Model;
-use xs_base::crosses_threads;
 use xs_base::limits::MOST_STYLES;
+use xs_base::{Memory, crosses_threads};
 use xs_pixel::laws::rows_of_bytes_are_rows_of_pixels;
 use xs_pixel::{Pixel, Style};
 
@@ -77,6 +77,16 @@ impl Palette {
     {
         rows_of_bytes_are_rows_of_pixels();
         self.table.as_slice()
+    }
+
+    /// A second palette with the same pixels.
+    pub fn copy(&self, alloc: Global) -> Result<Palette, Memory>
+        ensures { IfOk result (λ p. p ≡ self.now) }
+    {
+        Ok(Palette {
+            table: Vec::from_slice(alloc, &self.table)?,
+            past: self.past,
+        })
     }
 }
 

@@ -1,4 +1,5 @@
 mod Bytes
+mod Blank
 mod Pasting
 mod Places
 mod Points

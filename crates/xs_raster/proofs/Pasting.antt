@@ -15,6 +15,7 @@ use Rattle.xs_raster.proofs.Points.{off, off_below}
 pub record PastedIn (part : Area) (old new tile : Bitmap) : Type 0 where
   pub same_area : new.area ≡ old.area
   pub same_size : length new.pixels ≡ length old.pixels
+  pub same_kind : new.has_bytes ≡ old.has_bytes
   pub pasted : (p q : ℤ) → Holds part p q → pixel_of new p q ≡ pixel_of tile p q
   pub kept : (p q : ℤ) → Holds old.area p q → ¬ Holds part p q → pixel_of new p q ≡ pixel_of old p q
 
@@ -26,6 +27,7 @@ pub pasted_none : (c : Area) (old tile : Bitmap) → PastedIn (rows_below c 0) o
 pasted_none c old tile = record {
   same_area = refl;
   same_size = refl;
+  same_kind = refl;
   pasted = λ p q held. absurd (omega (arith, ints, held.up.least, held.up.below));
   kept = λ p q held apart. refl;
 }
@@ -34,13 +36,14 @@ pub pasted_all : (c : Area) (old new tile : Bitmap) → IsCommonPart old.area ti
 pasted_all c old new tile common done = record {
   same_area = done.same_area;
   same_size = done.same_size;
+  same_kind = done.same_kind;
   pasted = λ p q mine its. done.pasted p q ((common p q).1 (mine, its));
   kept = λ p q mine apart. done.kept p q mine (λ held. apart ((common p q).0 held).1);
 }
 
 pub pasted_apart : (old tile : Bitmap) → ShareNoPoint old.area tile.area → Pastes old old tile
 pasted_apart old tile apart = record
-    { same_area = refl; same_size = refl; pasted = λ p q mine its. absurd (apart p q mine its); kept = λ p q mine no. refl }
+    { same_area = refl; same_size = refl; same_kind = refl; pasted = λ p q mine its. absurd (apart p q mine its); kept = λ p q mine no. refl }
 
 -- an area within another holds none but its points
 within_holds : (c a : Area) (p q : ℤ) → IsWithin c a → Holds c p q → Holds a p q
@@ -70,6 +73,7 @@ pub pasted_more :
 pasted_more c i old new newer tile more mine its long done step = record {
   same_area = step.same_area ∙ done.same_area;
   same_size = step.same_size ∙ done.same_size;
+  same_kind = step.same_kind ∙ done.same_kind;
   pasted = λ p q held.
       elim (cases_lt (off c.y q) i) [
         | inl below ↦

@@ -1,5 +1,5 @@
 -- What putting a row or pasting a tile does to the pixels at points.
-use Rattle.std.proofs.Common.{◌≡◌, ℕ, ◌+◌, ◌-◌, ◌*◌, ◌<◌, ◌≤◌, ℤ, ◌-ℤ◌, unsigned_abs, List, length, slice_index_or, refl, inl, inr, arith}
+use Rattle.std.proofs.Common.{◌≡◌, ℕ, ◌+◌, ◌-◌, ◌*◌, ◌<◌, ◌≤◌, ℤ, ◌-ℤ◌, unsigned_abs, true, List, length, slice_index_or, refl, inl, inr, arith}
 use Rattle.std.specs.Simd.Lanes.{put_chunk}
 use Rattle.std.proofs.lemmas.Bool.{cases_lt}
 use Rattle.std.proofs.lemmas.Int.{ints}
@@ -70,11 +70,12 @@ row_kept a x y p q ps row across up held apart =
 -- putting a row into the list sets its points
 pub sets_row :
     (old : Bitmap) (x y : ℤ) (row : List Channels) → IsPart x (length row) old.area.x old.area.w
-    → Lies old.area.y old.area.h y → old.area.w * old.area.h ≡ length old.pixels
+    → Lies old.area.y old.area.h y → old.area.w * old.area.h ≡ length old.pixels → true ≡ old.has_bytes
     → SetsRow old (bitmap old.area (put_chunk (place_of old.area x y) old.pixels row)) x y row
-sets_row old x y row across up all = record {
+sets_row old x y row across up all held = record {
   same_area = refl;
   same_size = length-put_chunk (place_of old.area x y) old.pixels row;
+  same_kind = held;
   set = λ p on. row_found old.area x y p old.pixels row across up all on;
   kept = λ p q held apart. row_kept old.area x y p q old.pixels row across up held apart;
 }

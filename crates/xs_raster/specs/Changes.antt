@@ -7,6 +7,7 @@ use Rattle.xs_raster.specs.Bitmap.{Bitmap, pixel_of}
 pub record SetsRow (old new : Bitmap) (x y : ℤ) (row : List Channels) : Type 0 where
   pub same_area : new.area ≡ old.area
   pub same_size : length new.pixels ≡ length old.pixels
+  pub same_kind : new.has_bytes ≡ old.has_bytes
   pub set : (p : ℤ) → Lies x (length row) p → pixel_of new p y ≡ slice_index_or row (unsigned_abs (p -ℤ x)) clear
   pub kept : (p q : ℤ) → Holds old.area p q → ¬ Holds (area x y (length row) 1) p q → pixel_of new p q ≡ pixel_of old p q
 
@@ -14,5 +15,6 @@ pub record SetsRow (old new : Bitmap) (x y : ℤ) (row : List Channels) : Type 0
 pub record Pastes (old new tile : Bitmap) : Type 0 where
   pub same_area : new.area ≡ old.area
   pub same_size : length new.pixels ≡ length old.pixels
+  pub same_kind : new.has_bytes ≡ old.has_bytes
   pub pasted : (p q : ℤ) → Holds old.area p q → Holds tile.area p q → pixel_of new p q ≡ pixel_of tile p q
   pub kept : (p q : ℤ) → Holds old.area p q → ¬ Holds tile.area p q → pixel_of new p q ≡ pixel_of old p q

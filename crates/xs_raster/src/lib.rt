@@ -3,10 +3,12 @@
 #![tactic(auto)]
 
 mod raster;
+mod rows;
 mod tile;
 mod tile_ref;
 
-pub use raster::Raster;
+pub use raster::{LONGEST_BLANK_SIDE, Raster};
+pub use rows::paste_into;
 pub use tile::Tile;
 pub use tile_ref::TileRef;
 use xs_base::crosses_threads;

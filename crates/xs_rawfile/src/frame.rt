@@ -14,9 +14,10 @@ pub fn frame_bytes(alloc: Global, r: &Raster) -> Result<Vec<u8>, Memory>
     ensures { IfOk result (λ bytes. bytes.items ≡ frame_file_of r.now) }
 {
     let rect = r.rect();
-    let mut bytes = Vec::with_capacity(alloc, FRAME_HEADER + r.bytes().len())?;
+    let pixels = rect.w() as usize * rect.h() as usize;
+    let mut bytes = Vec::with_capacity(alloc, FRAME_HEADER + 4 * pixels)?;
     push_frame_header(&mut bytes, rect.w(), rect.h())?;
-    bytes.extend_from_slice(r.bytes())?;
+    r.push_bytes(&mut bytes)?;
     Ok(bytes)
 }
 

@@ -4,4 +4,4 @@
 
 mod scene;
 
-pub use scene::{decode, encode, text_faults};
+pub use scene::{decode, encode, text_faults, texts_say_scenes_in_range};

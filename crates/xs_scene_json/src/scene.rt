@@ -4,6 +4,8 @@ ghost use Rattle.xs_fault.specs.declared.code.SceneCode.TheVariants as code;
 ghost use Rattle.xs_fault.specs.declared.fault.SceneFault.{SceneFault};
 ghost use Rattle.xs_json.specs.Parsing.{Gives, or_fault};
 ghost use Rattle.serde_json.specs.Written.{compact_text};
+ghost use Rattle.xs_scene.specs.InRange.{IsInRange};
+ghost use Rattle.xs_scene.specs.Records.{SceneRecord};
 ghost use Rattle.xs_scene_text.specs.SceneText.{json_of, scene_of};
 ghost use Rattle.xs_scene_text.specs.SceneData.{scene_data};
 ghost use Rattle.xs_scene_json.specs.Faults.{is_text_code};
@@ -45,6 +47,12 @@ pub fn decode(alloc: Global, bytes: &[u8]) -> Result<Scene, FieldFault>
 pub fn text_faults()
     ensures { (bytes : List ℕ) (fault : SceneFault) → scene_of bytes ≡ Err fault
         → is_text_code fault.code ≡ true }
+{}
+
+/// The scene that a text says is in range, whatever bytes the text has: each of its numbers, names and
+/// styles, and in format 1 nothing that came with format 2.
+pub fn texts_say_scenes_in_range()
+    ensures { (bytes : List ℕ) (s : SceneRecord) → scene_of bytes ≡ Ok s → IsInRange s }
 {}
 
 /// The one text of a scene: compact, the keys of each object in the order of their bytes, in the scene's

@@ -1,3 +1,4 @@
 pub mod Readings
 pub mod Ways
 pub mod Columns
+pub mod SameSpots

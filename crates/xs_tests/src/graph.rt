@@ -3,7 +3,7 @@
 use std::alloc::{AllocError, Global};
 use std::test::Fail;
 use xs_base::List;
-use xs_graph::{ByLabels, first_by_labels, first_by_search, first_long, first_on_cycle};
+use xs_graph::{ByLabels, first_by_labels, first_by_search, first_long, first_on_cycle, labels_of};
 
 /// The nodes among the first three that the last three bits of a number tell.
 fn targets(alloc: Global, bits: u32) -> Result<List<u32>, AllocError> {
@@ -32,7 +32,8 @@ fn labels_tell_the_first_node_on_a_cycle(rt: HostRuntime) -> Result<(), Fail> {
         let links = graph(alloc, bits)?;
         let first = first_by_search(alloc, &links)?;
         assert_eq!(rt; first_on_cycle(alloc, &links)?, first, "graph {bits}");
-        let told = first_by_labels(alloc, &links)?;
+        let labels = labels_of(alloc, &links)?;
+        let told = first_by_labels(alloc, &links, &labels)?;
         assert_eq!(rt; told, ByLabels::First(first), "graph {bits}");
     }
     Ok(())

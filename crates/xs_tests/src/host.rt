@@ -42,6 +42,26 @@ fn a_file_comes_back_as_it_was_put(rt: HostRuntime) -> Result<(), Fail> {
 }
 
 #[test]
+fn a_file_of_many_buffers_comes_back_whole(rt: HostRuntime) -> Result<(), Fail> {
+    let bytes: Vec<u8> = (0..300_000_u32)
+        .map(|i| (i % 251) as u8)
+        .collect(rt.alloc())?;
+    let mut shelf = FolderShelf::new(&rt);
+    assert_eq!(rt;
+        shelf.put(rt.alloc(), "f.0001.xfr", bytes.as_slice()),
+        Put::Done
+    );
+    let mut library = FolderLibrary::new(&rt);
+    let Fetched::Bytes(read) = library.get(rt.alloc(), "f.0001.xfr", 300_000) else {
+        return Err("the file does not come back")?;
+    };
+    assert_eq!(rt; read.as_slice(), bytes.as_slice());
+    let one_less = library.get(rt.alloc(), "f.0001.xfr", 299_999);
+    assert!(rt; matches!(one_less, Fetched::TooLong));
+    Ok(())
+}
+
+#[test]
 fn a_line_is_written(rt: HostRuntime) {
     let mut notes = OutNotes::new(&rt);
     assert_eq!(rt; notes.line(rt.alloc(), b"rendered 1 rows"), Noted::Done);

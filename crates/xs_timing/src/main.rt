@@ -2,25 +2,29 @@
 //! words, or where they name no part, the parts are listed and the status is 2.
 #![tactic(auto)]
 
+mod blurs;
 mod checking;
 mod frame;
 mod kernels;
+mod plans;
 mod scene_text;
 mod script;
 mod sharing;
 mod tiles;
 
 use std::process::ExitCode;
-use std::rt::Clock;
+use std::rt::{Clock, Files};
 use std::{env, io};
 
 /// The parts.
 const PARTS: &str = "\
 xs_timing kernels: the row kernels beside the plain rows, in thousandths of a nanosecond a pixel
 xs_timing kernel-bytes: not a time, but rows and the results of four kernels, for a comparison with others
+xs_timing blur: the blur of tiles at several radii, in thousandths of a nanosecond a pixel
 xs_timing frame: a frame of 1920 by 1080 of four columns, by the plain evaluator
 xs_timing check: checking scenes at the limits, and ones with faults
 xs_timing needs: the drawings of a row where nodes and nested sheets are shared
+xs_timing plan: building a plan at the limits, beside filling 600 MiB, and the most memory after each
 xs_timing decode MIB: reading a scene text of so many MiB without a blank
 xs_timing decode-indented MIB: reading one that is indented
 xs_timing decode-line MIB: reading one on one line
@@ -39,20 +43,25 @@ fn time_text<R: Print + Clock + AllocGlobal>(rt: &R, part: &str, size: u16) -> i
 }
 
 /// Times a part; false where no part has this name.
-fn time_part<R: Print + Clock + AllocGlobal>(rt: &R, part: &str) -> io::Result<bool> {
+fn time_part<R: Print + Clock + Files + AllocGlobal>(rt: &R, part: &str) -> io::Result<bool> {
     match part {
         "kernels" => kernels::time(rt, rt.alloc())?,
         "kernel-bytes" => kernels::write_bytes(rt, rt.alloc())?,
+        "blur" => blurs::time(rt, rt.alloc())?,
         "frame" => frame::time(rt, rt.alloc())?,
         "check" => checking::time(rt, rt.alloc())?,
         "needs" => sharing::time_needs(rt, rt.alloc())?,
+        "plan" => plans::time(rt, rt.alloc())?,
         _ => return Ok(false),
     }
     Ok(true)
 }
 
 /// Times what the words name; false where they name no part.
-fn time_words<R: Print + Clock + AllocGlobal>(rt: &R, words: &[String]) -> io::Result<bool> {
+fn time_words<R: Print + Clock + Files + AllocGlobal>(
+    rt: &R,
+    words: &[String],
+) -> io::Result<bool> {
     match words {
         [part] => time_part(rt, part.as_str()),
         [part, size] => match size.as_str().parse::<u16>() {

@@ -1,4 +1,6 @@
 mod Marks
 mod KeysInForce
 mod ShownStyles
-mod SameTints
+mod ClearEnds
+mod KeyedTints
+mod MoreTints

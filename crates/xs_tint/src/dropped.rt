@@ -6,9 +6,10 @@ ghost use Rattle.xs_base.specs.Listed.{is_listed};
 ghost use Rattle.xs_tint.specs.Filters.{dropped_by, filtering};
 
 use std::alloc::Global;
+use std::hash::{Hash, Hasher};
 use std::marker::Model;
+use xs_base::Memory;
 use xs_base::limits::STYLE_NUMBERS;
-use xs_base::{List, Memory};
 
 /// The styles that filters on the way to a drawing have dropped: these are clear there. Contracts see
 /// it as one flag for each style from 0 on, in which `dropped_by` looks one up.
@@ -28,6 +29,42 @@ impl Model for Dropped {
     ghost invariant = { λ d. length d.flags.items ≡ STYLE_NUMBERS };
 }
 
+/// Two are equal where they drop the same styles.
+impl PartialEq for Dropped {
+    ghost use Rattle.std.specs.Bool.{beq};
+    ghost use Rattle.std.specs.Cmp.Lexicographic.{pointwise};
+    ghost use Rattle.std.specs.Cmp.Rules.{comparing};
+    ghost use Rattle.std.proofs.Common.{rules};
+
+    ghost eq = { pointwise beq };
+
+    ghost laws = { Prim.search (comparing, rules) };
+
+    fn eq(&self, other: &Dropped) -> bool {
+        self.flags == other.flags
+    }
+}
+
+impl Eq for Dropped {
+    ghost use Rattle.std.specs.Cmp.Rules.{comparing};
+    ghost use Rattle.std.proofs.Common.{rules};
+
+    ghost laws = { Prim.search (comparing, rules) };
+}
+
+impl Hash for Dropped {
+    ghost use Rattle.std.specs.Hash as fed;
+    ghost use Rattle.std.specs.Cmp.{booleans_Decides};
+
+    ghost hash_input = { fed.slice fed.bool };
+
+    ghost respects_eq = { (fed.items_Alike (fed.same_Alike fed.bool booleans_Decides)).fed };
+
+    fn hash<H: Hasher>(&self, state: &mut H) {
+        self.flags.hash(state);
+    }
+}
+
 impl Dropped {
     /// No style is dropped.
     pub fn none(alloc: Global) -> Result<Dropped, Memory>
@@ -40,12 +77,12 @@ impl Dropped {
 
     /// What is dropped below a filter of these styles: with `keep` each style that is not listed, else
     /// each listed one, and in either case what was dropped already.
-    pub fn with(&self, alloc: Global, keep: bool, styles: &List<u32>) -> Result<Dropped, Memory>
+    pub fn with(&self, alloc: Global, keep: bool, styles: &[u32]) -> Result<Dropped, Memory>
         requires { All IsFiltered styles.now }
         ensures { IfOk result (λ d. dropped_by d ≡ filtering keep styles.now (dropped_by self.now)) }
     {
         let was = self.flags.as_slice();
-        let mut flags = marks(alloc, styles.items())?;
+        let mut flags = marks(alloc, styles)?;
         for id in 0..STYLE_NUMBERS as usize {
             flags[id] = was[id] || flags[id] != keep;
         }

@@ -1,29 +1,36 @@
-ghost use Rattle.std.specs.Prelude.{◌≡◌, ◌≢◌, ◌↔◌, ◌<◌, ◌≤◌, ◌++◌, [], ◌∷◌, Some, Contains, AllPairs, IsTrue, IfOk, OnErr, MatchOption, length, slice_get};
+ghost use Rattle.std.specs.Prelude.{◌≡◌, ◌≢◌, ◌<◌, ◌≤◌, ◌++◌, [], ◌∷◌, Some, Contains, AllPairs, IfOk, OnErr, MatchOption, map, length, slice_get};
+ghost use Rattle.std.specs.List.{range_with_len};
+ghost use Rattle.xs_palette.specs.Styles.{style_of};
 ghost use Rattle.xs_tint.specs.Tints.{tint_of};
 
+use indexmap::IndexMap;
 use std::alloc::{AllocError, Global};
 use std::marker::Model;
 use xs_base::Memory;
-use xs_meaning::filters::clear_pixels_at_the_end_tell_nothing;
 use xs_palette::Palette;
+use xs_pixel::Pixel;
 
 /// The palettes of a render that give their styles other pixels than written, each with one number.
 /// Contracts see it as the list of their tints, which differ.
 #[derive(Debug, Drop)]
 pub struct Tints {
-    palettes: Vec<Palette>,
+    // each palette under the pixels of its tint, in the order of the numbers
+    palettes: IndexMap<Vec<Pixel>, Palette>,
+    alloc: Global,
 }
 
 impl Model for Tints {
     ghost use Rattle.std.specs.Prelude.{List, map, ◌≢◌, ◌<◌, ◌^◌, length, AllPairs};
+    ghost use Rattle.indexmap.specs.IndexMap.{values};
     ghost use Rattle.xs_pixel.specs.Channels.{Channels};
-    ghost use Rattle.xs_tint.specs.Tints.{tint_of};
+    ghost use Rattle.xs_tint.specs.Tints.{tint_of, AreUnderTints};
 
     ghost Value = { List (List Channels) };
 
-    ghost view = { λ t. map tint_of t.palettes.items };
+    ghost view = { λ t. map tint_of (values t.palettes) };
 
-    ghost invariant = { λ t. AllPairs (λ a b. a ≢ b) (map tint_of t.palettes.items) × (length t.palettes.items < 2 ^ 32) };
+    ghost invariant = { λ t. AreUnderTints t.palettes.entries (λ k. k.items)
+        × AllPairs (λ a b. a ≢ b) (map tint_of (values t.palettes)) × (length (values t.palettes) < 2 ^ 32) };
 }
 
 impl Tints {
@@ -32,7 +39,8 @@ impl Tints {
         ensures { IfOk result (λ t. t ≡ []) }
     {
         Ok(Tints {
-            palettes: Vec::new(alloc),
+            palettes: IndexMap::new(alloc),
+            alloc,
         })
     }
 
@@ -45,10 +53,18 @@ impl Tints {
         ensures differ { AllPairs (λ a b. a ≢ b) self.new }
         ensures err { OnErr result (self.new ≡ self.old) }
     {
-        match self.find(&p) {
+        let tint = tint_pixels(self.alloc, &p)?;
+        match self.find(&tint) {
             Some(number) => Ok(number),
-            None => self.add(p),
+            None => self.add(tint, p),
         }
+    }
+
+    /// How many palettes there are.
+    pub fn len(&self) -> u32
+        ensures { result ≡ length self.now }
+    {
+        self.palettes.len() as u32
     }
 
     /// The palette with a number.
@@ -59,23 +75,21 @@ impl Tints {
         &self.palettes[t as usize]
     }
 
-    /// The number of the palette that gives every style the same pixel.
-    fn find(&self, p: &Palette) -> Option<u32>
-        ensures found { MatchOption result (Contains self.now (tint_of p.now) → ⊥) (λ t. slice_get self.now t ≡ Some (tint_of p.now)) }
+    /// The number of the palette with a tint.
+    fn find(&self, tint: &Vec<Pixel>) -> Option<u32>
+        ensures found { MatchOption result (Contains self.now tint.now.items → ⊥) (λ t. slice_get self.now t ≡ Some tint.now.items) }
         ensures differ { AllPairs (λ a b. a ≢ b) self.now }
     {
-        let known = self.palettes.as_slice();
-        for (number, palette) in known.iter().enumerate() {
-            if is_same(palette, p) {
-                return Some(number as u32);
-            }
+        match self.palettes.get_index_of(tint) {
+            Some(number) => Some(number as u32),
+            None => None,
         }
-        None
     }
 
     /// Gives a palette that is new the next number.
-    fn add(&mut self, p: Palette) -> Result<u32, Memory>
-        requires { Contains self.old (tint_of p) → ⊥ }
+    fn add(&mut self, tint: Vec<Pixel>, p: Palette) -> Result<u32, Memory>
+        requires own { tint.items ≡ tint_of p }
+        requires fresh { Contains self.old (tint_of p) → ⊥ }
         ensures number { IfOk result (λ t. slice_get self.new t ≡ Some (tint_of p)) }
         ensures next { IfOk result (λ t. t ≡ length self.old) }
         ensures added { IfOk result (λ t. self.new ≡ self.old ++ tint_of p ∷ []) }
@@ -86,21 +100,37 @@ impl Tints {
         if number >= u32::MAX as usize {
             return Err(Memory);
         }
-        self.palettes.push(p).map_err(AllocError::from)?;
-        Ok(number as u32)
+        match self.palettes.insert(tint, p) {
+            Ok(_) => Ok(number as u32),
+            Err(_) => Err(Memory),
+        }
     }
 }
 
-/// Whether two palettes give every style the same pixel.
-fn is_same(a: &Palette, b: &Palette) -> bool
-    ensures { IsTrue result ↔ (tint_of a.now ≡ tint_of b.now) }
+/// How many styles a palette has up to its last that is not clear.
+fn styles_shown(p: &Palette) -> u32
+    ensures { map (style_of p.now) (range_with_len 0 result) ≡ tint_of p.now }
 {
-    clear_pixels_at_the_end_tell_nothing();
-    let count = a.table().len().max(b.table().len()) / 4;
-    for id in 0..count as u32 {
-        if a.style(id) != b.style(id) {
-            return false;
+    let mut count = (p.table().len() / 4) as u32;
+    while count > 0 {
+        if p.style(count - 1) != Pixel::CLEAR {
+            return count;
         }
+        count -= 1;
     }
-    true
+    count
+}
+
+/// The pixels of a palette's first styles.
+fn first_pixels(alloc: Global, p: &Palette, count: u32) -> Result<Vec<Pixel>, AllocError>
+    ensures { IfOk result (λ pixels. pixels.items ≡ map (style_of p.now) (range_with_len 0 count)) }
+{
+    (0..count).map(|id| p.style(id)).collect(alloc)
+}
+
+/// The pixels of a palette's tint.
+fn tint_pixels(alloc: Global, p: &Palette) -> Result<Vec<Pixel>, AllocError>
+    ensures { IfOk result (λ tint. tint.items ≡ tint_of p.now) }
+{
+    first_pixels(alloc, p, styles_shown(p))
 }

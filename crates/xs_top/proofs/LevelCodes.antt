@@ -13,7 +13,8 @@ abbrev AreKept : List (Bool × LevelCode) → Type 0
 AreKept [] = Unit {0}
 AreKept ((b, test) ∷ rest) = (is_lost_level test ≡ false) × AreKept rest
 
-first_kept : (tests : List (Bool × LevelCode)) (last : Option LevelCode) (found : LevelCode) → AreKept tests → (last ≡ Some found → is_lost_level found ≡ false) → first_of tests last ≡ Some found → is_lost_level found ≡ false
+first_kept : (tests : List (Bool × LevelCode)) (last : Option LevelCode) (found : LevelCode) → AreKept tests
+    → (last ≡ Some found → is_lost_level found ≡ false) → first_of tests last ≡ Some found → is_lost_level found ≡ false
 first_kept [] last found kept more e = more e
 first_kept ((true, test) ∷ rest) last found kept more e = let same : found ≡ test = cc in ap is_lost_level same ∙ kept.0
 first_kept ((false, test) ∷ rest) last found kept more e = first_kept rest last found kept.1 more e
@@ -39,4 +40,5 @@ tests kind bytes =
 pub level_kept : (kind : RawKind) (bytes : List ℕ) (found : LevelCode) → first_fault kind bytes ≡ Some found → is_lost_level found ≡ false
 unfolding first_fault
 level_kept kind bytes found e =
-    first_kept (tests kind bytes) (unmultiplied_fault kind (drop 21 bytes)) found (refl, (refl, (refl, (refl, (refl, (refl, tt)))))) (last_kept kind (drop 21 bytes) found) e
+    first_kept (tests kind bytes) (unmultiplied_fault kind (drop 21 bytes)) found (refl, (refl, (refl, (refl, (refl, (refl, tt))))))
+    (last_kept kind (drop 21 bytes) found) e

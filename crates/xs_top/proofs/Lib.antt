@@ -1,9 +1,8 @@
 pub mod Parts
 pub mod Answered
 pub mod Wholes
-pub mod OneOutcome
 pub mod LevelCodes
-pub mod Verdicts
+pub mod Scenes
 pub mod Listings
 pub mod RowRanges
 pub mod Drawn
@@ -16,3 +15,7 @@ pub mod Asking
 pub mod Accepting
 pub mod Fronts
 pub mod Rendering
+pub mod Endings
+pub mod FrameNames
+pub mod Refusals
+pub mod Showing

@@ -17,7 +17,8 @@ pub placing_none : (s : SceneRecord) (pictures : Pictures) (base : List ℕ) (ne
 unfolding placing_rows
 placing_none s pictures base next = refl
 
-pub placing_first : (s : SceneRecord) (pictures : Pictures) (base : List ℕ) (row : ℕ) (rows : List ℕ) (next : Outcome) → placing_rows s pictures base (row ∷ rows) next ≡ placing (frame_at s pictures base row) (placing_rows s pictures base rows next)
+pub placing_first : (s : SceneRecord) (pictures : Pictures) (base : List ℕ) (row : ℕ) (rows : List ℕ) (next : Outcome)
+    → placing_rows s pictures base (row ∷ rows) next ≡ placing (frame_at s pictures base row) (placing_rows s pictures base rows next)
 unfolding placing_rows
 placing_first s pictures base row rows next = refl
 
@@ -28,7 +29,8 @@ pub placing_row : (s : SceneRecord) (pictures : Pictures) (base : List ℕ) (fir
 placing_row s pictures base first rows i next within =
     ap (λ l. placing_rows s pictures base l next) (range_next first rows i within) ∙ placing_first s pictures base _ _ next
 
-pub placing_over : (s : SceneRecord) (pictures : Pictures) (base : List ℕ) (first rows i : ℕ) (next : Outcome) → rows ≤ i → placing_rows s pictures base (range_with_len (first + i) (rows - i)) next ≡ next
+pub placing_over : (s : SceneRecord) (pictures : Pictures) (base : List ℕ) (first rows i : ℕ) (next : Outcome) → rows ≤ i
+    → placing_rows s pictures base (range_with_len (first + i) (rows - i)) next ≡ next
 placing_over s pictures base first rows i next past =
     ap (λ l. placing_rows s pictures base l next) (range_over first rows i past) ∙ placing_none s pictures base next
 
@@ -43,14 +45,17 @@ held_left P xs ys all = λ k d within.
     let at : k < length (xs ++ ys) = omega (arith, length-append xs ys) in
     subst P (get_or_append_left xs ys d k within) (all k d at)
 
-row_held_at : (P : ℕ → Type 0) (s : SceneRecord) (i first rows : ℕ) → i < rows → All P (needed s (range_with_len first rows)) → All P (drawings_of (root_of s (first + i)))
+row_held_at : (P : ℕ → Type 0) (s : SceneRecord) (i first rows : ℕ) → i < rows → All P (needed s (range_with_len first rows))
+    → All P (drawings_of (root_of s (first + i)))
 row_held_at P s i first zero within all = absurd (omega arith)
 row_held_at P s zero first (suc rows) within all =
     let here : first + 0 ≡ first = omega arith in
     rw here (held_left P (drawings_of (root_of s first)) (needed s (range_with_len (first + 1) rows)) all)
 row_held_at P s (suc i) first (suc rows) within all =
     let place : first + suc i ≡ (first + 1) + i = omega arith in
-    rw place (row_held_at P s i (first + 1) rows (omega arith) (held_right P (drawings_of (root_of s first)) (needed s (range_with_len (first + 1) rows)) all))
+    rw place
+    (row_held_at P s i (first + 1) rows (omega arith) (held_right P (drawings_of (root_of s first)) (needed s (range_with_len (first + 1) rows)) all))
 
-pub row_held : (h : Held) (s : SceneRecord) (i first rows : ℕ) → i < rows → AreHeld h (needed s (range_with_len first rows)) → AreHeld h (drawings_of (root_of s (first + i)))
+pub row_held : (h : Held) (s : SceneRecord) (i first rows : ℕ) → i < rows → AreHeld h (needed s (range_with_len first rows))
+    → AreHeld h (drawings_of (root_of s (first + i)))
 row_held h s i first rows within all = row_held_at (λ d. IsSome (slot_in h d)) s i first rows within all

@@ -6,14 +6,16 @@ use Rattle.xs_outside.specs.Told.{more}
 use Rattle.xs_outside.specs.declared.object.Object.{Object}
 use Rattle.xs_fault.specs.declared.fault.SceneFault.{SceneFault}
 use Rattle.xs_scene.specs.Records.{SceneRecord}
-use Rattle.xs_check.specs.Passes.{Checking}
+use Rattle.xs_check.specs.Passes.{first_fault}
 use Rattle.xs_words.specs.declared.command.Command.TheVariants as command
 use Rattle.xs_words.specs.Grammar.{reading_of}
 use Rattle.xs_top.specs.declared.status.Status.{Status}
 use Rattle.xs_top.specs.declared.status.Status.TheVariants as answers
 use Rattle.xs_top.specs.Trace.{puts, Outcome, Contents, grown}
 use Rattle.xs_top.specs.Runs.{GainedFront, is_broken, IsRun}
-use Rattle.xs_top.specs.Files.{Files, Verdict}
+use Rattle.xs_top.specs.Seen.{Seen}
+use Rattle.xs_top.specs.Ran.{RanRows}
+use Rattle.xs_top.specs.Files.{Files}
 use Rattle.xs_base.specs.Sections.{rows_of}
 use Rattle.xs_top.specs.Finished.{Says, frames_of}
 use Rattle.xs_top.specs.Outcome.{if_faultless, rendering_scene, rendering, commanding, outcome}
@@ -26,79 +28,87 @@ use Rattle.xs_top.proofs.Finishing.{scene_through, rendered_asks, rendered_puts,
 use Rattle.xs_top.proofs.Accepting.{rendered_accepted}
 use Rattle.xs_top.proofs.Fronts.{says_or_not, front_rendering}
 
-checked_good : (fault : Option SceneFault) (next : Outcome) → (if_faultless fault next).status ≡ answers.Ok → fault ≡ None
+pub checked_good : (fault : Option SceneFault) (next : Outcome) → (if_faultless fault next).status ≡ answers.Ok → fault ≡ None
 checked_good None next e = refl
 checked_good (Some fault) next e = absurd cc
 
-take_none : {A : Type 0} (n : ℕ) (xs : List A) → xs ≡ [] → take n xs ≡ []
+pub take_none : {A : Type 0} (n : ℕ) (xs : List A) → xs ≡ [] → take n xs ≡ []
 take_none n xs e = rw e (take-nil n)
 
-module _ (files : Files) (verdict : Verdict) (name base : List ℕ) (from to : ℕ) (ordered : from ≤ to) where
+module _ (files : Files) (name base : List ℕ) (from to : ℕ) (ordered : from ≤ to) where
   -- a render that ends well has read a scene without a fault
-  pub rendered_scene : (rendering files verdict name from to base).status ≡ answers.Ok → (s : SceneRecord) × Says files name s × (verdict s ≡ None)
+  pub rendered_scene : (rendering files name from to base).status ≡ answers.Ok → (s : SceneRecord) × Says files name s × (first_fault s ≡ None)
   unfolding rendering
   rendered_scene ends =
-      elim (says_or_not files verdict name (rendering_scene files from to base)) [
+      elim (says_or_not files name (rendering_scene files from to base)) [
         | inl said ↦ (
           said.0,
           said.1,
-          checked_good (verdict said.0) (rendering_scene files from to base said.0)
-              (ap (λ o. o.status) (sym (scene_through files verdict name said.0 (rendering_scene files from to base) said.1)) ∙ ends),
+          checked_good (first_fault said.0) (rendering_scene files from to base said.0)
+              (ap (λ o. o.status) (sym (scene_through files name said.0 (rendering_scene files from to base) said.1)) ∙ ends),
         )
         | inr none ↦ absurd (none.other (ap (λ o. o.status) (sym none.ends) ∙ ends))
       ]
 
-  rendered_all : TakenOnce → ((s : SceneRecord) → Checking s (verdict s)) → (before now : Contents) → now ≡ grown before (rendering files verdict name from to base).work → (rendering files verdict name from to base).status ≡ answers.Ok → IsRendered files name base from to before now
-  rendered_all once right before now whole ends =
+  rendered_all : TakenOnce → (before now : Contents) → now ≡ grown before (rendering files name from to base).work
+      → (rendering files name from to base).status ≡ answers.Ok → IsRendered files name base from to before now
+  rendered_all once before now whole ends =
       let read = rendered_scene ends in
       let s = read.0 in
       let says = read.1 in
       let good = read.2 in
-      let ok = rendered_accepted once files verdict name base s from to ordered says ends in
+      let ok = rendered_accepted once files name base s from to ordered says ends in
       record {
         scene = s;
         says = says;
-        faultless = subst (Checking s) good (right s);
+        faultless = good;
         accepted = ok;
-        asked = ap (λ seen. seen.asked) whole ∙ ap (more before.asked) (rendered_asks once files verdict name base s from to ordered says good ok);
-        frames = ap (λ seen. seen.shelf) whole ∙ ap (more before.shelf) (rendered_puts once files verdict name base s from to ordered says good ok);
-        line = ap (λ seen. seen.notes) whole ∙ ap (more before.notes) (rendered_lines once files verdict name base s from to ordered says good ok);
+        asked = ap (λ seen. seen.asked) whole ∙ ap (more before.asked) (rendered_asks once files name base s from to ordered says good ok);
+        frames = ap (λ seen. seen.shelf) whole ∙ ap (more before.shelf) (rendered_puts once files name base s from to ordered says good ok);
+        line = ap (λ seen. seen.notes) whole ∙ ap (more before.notes) (rendered_lines once files name base s from to ordered says good ok);
       }
 
-  nothing_placed : ((s : SceneRecord) → Says files name s → ⊥) → puts (rendering files verdict name from to base).work ≡ []
+  nothing_placed : ((s : SceneRecord) → Says files name s → ⊥) → puts (rendering files name from to base).work ≡ []
   unfolding rendering
   nothing_placed nothing =
-      elim (says_or_not files verdict name (rendering_scene files from to base)) [
+      elim (says_or_not files name (rendering_scene files from to base)) [
         | inl said ↦ absurd (nothing said.0 said.1)
         | inr none ↦ ap (λ o. puts o.work) none.ends
       ]
 
-  first_frames : (s : SceneRecord) → Says files name s → (n : ℕ) (before now : Option (List Object)) → now ≡ more before (take n (puts (rendering files verdict name from to base).work)) → (rows : ℕ) × (now ≡ more before (take rows (frames_of files s base (rows_of from to))))
+  first_frames : (s : SceneRecord) → Says files name s → (n : ℕ) (before now : Option (List Object))
+      → now ≡ more before (take n (puts (rendering files name from to base).work))
+      → (rows : ℕ) × (now ≡ more before (take rows (frames_of files s base (rows_of from to))))
   first_frames s says n before now told =
-      let placed = puts (rendering files verdict name from to base).work in
-      let f = front_rendering files verdict name base s from to ordered says in
+      let placed = puts (rendering files name from to base).work in
+      let f = front_rendering files name base s from to ordered says in
       front before now (take n placed) (drop n placed ++ f.rest) _ told
       (f.split ∙ (ap (λ l. l ++ f.rest) (sym (take-append-drop n placed)) ∙ append_assoc (take n placed) (drop n placed) f.rest))
 
-  frames_gained : (before now : Contents) → GainedFront (rendering files verdict name from to base) before now → GainedFrames files name base from to before.shelf now.shelf
+  frames_gained : (before now : Contents) → GainedFront (rendering files name from to base) before now
+      → GainedFrames files name base from to before.shelf now.shelf
   frames_gained before now gained = record {
     some = λ s says. first_frames s says gained.shelf.0 before.shelf now.shelf gained.shelf.1;
     none = λ nothing. gained.shelf.1 ∙ (ap (more before.shelf) (take_none gained.shelf.0 _ (nothing_placed nothing)) ∙ more-nothing _);
   }
 
-module _ (files : Files) (verdict : Verdict) (words : List (List ℕ)) (name base : List ℕ) (from to workers : ℕ) (ordered : from ≤ to) (reads : reading_of words ≡ Ok (command.Render name from to workers base)) (before now : Contents) (result : Status) (run : IsRun (outcome files verdict words) before now result) where
-  is_rendering : outcome files verdict words ≡ rendering files verdict name from to base
+module _ (files : Files) (words : List (List ℕ)) (name base : List ℕ) (from to workers : ℕ) (ordered : from ≤ to)
+    (reads : reading_of words ≡ Ok (command.Render name from to workers base)) (before now : Seen) (result : Status)
+    (run : IsRun (outcome files words) before now result) where
+  is_rendering : outcome files words ≡ rendering files name from to base
   unfolding commanding
-  is_rendering = command_obeyed files verdict words (command.Render name from to workers base) reads
+  is_rendering = command_obeyed files words (command.Render name from to workers base) reads
 
-  pub run_rendered : TakenOnce → ((s : SceneRecord) → Checking s (verdict s)) → result ≡ answers.Ok → IsRendered files name base from to before now
-  run_rendered once right ends =
+  run_rendered : TakenOnce → result ≡ answers.Ok → IsRendered files name base from to before.told now.told
+  run_rendered once ends =
       let unbroken : is_broken result ≡ false = ap is_broken ends in
-      rendered_all files verdict name base from to ordered once right before now
-      (run.whole unbroken ∙ ap (λ o. grown before o.work) is_rendering)
+      rendered_all files name base from to ordered once before.told now.told
+      (run.whole unbroken ∙ ap (λ o. grown before.told o.work) is_rendering)
       (ap (λ o. o.status) (sym is_rendering) ∙ (sym (run.answer unbroken) ∙ ends))
 
-  pub run_frames : GainedFrames files name base from to before.shelf now.shelf
-  run_frames =
-      frames_gained files verdict name base from to ordered before now
-      (subst (λ (all : Outcome). GainedFront all before now) is_rendering run.front)
+  pub run_rows : TakenOnce → RanRows files name base from to before now result
+  run_rows once = record {
+    whole = run_rendered once;
+    frames = frames_gained files name base from to ordered before.told now.told
+        (subst (λ (all : Outcome). GainedFront all before.told now.told) is_rendering run.front);
+  }

@@ -1,5 +1,5 @@
 -- Ranges of rows, one row after another.
-use Rattle.std.proofs.Common.{◌≡◌, ℕ, zero, suc, ◌+◌, ◌-◌, ◌<◌, ◌≤◌, [], ◌∷◌, ◌++◌, sym, ap, ◌∙◌, arith}
+use Rattle.std.proofs.Common.{◌≡◌, ℕ, zero, suc, ◌+◌, ◌-◌, ◌<◌, ◌≤◌, length, [], ◌∷◌, ◌++◌, refl, sym, ap, ◌∙◌, arith}
 use Rattle.std.specs.List.{range_with_len}
 use Rattle.std.proofs.lemmas.Grind.{flat_map-append}
 use Rattle.std.proofs.lemmas.List.{append-nil}
@@ -29,12 +29,18 @@ range-append first (suc n) m =
     ∙ sym (ap (range_with_len first) count)
 
 -- what the rows up to the next one need
-pub needed_more : (s : SceneRecord) (first i : ℕ) → needed s (range_with_len first (i + 1)) ≡ needed s (range_with_len first i) ++ drawings_of (root_of s (first + i))
+pub needed_more : (s : SceneRecord) (first i : ℕ)
+    → needed s (range_with_len first (i + 1)) ≡ needed s (range_with_len first i) ++ drawings_of (root_of s (first + i))
 needed_more s first i =
     ap (needed s) (sym (range-append first i 1))
     ∙ (flat_map-append (λ row. drawings_of (root_of s row)) (range_with_len first i) ((first + i) ∷ [])
     ∙ ap (λ rest. needed s (range_with_len first i) ++ rest) (append-nil _))
 
 -- what a row needs, and then what those behind it need
-pub needed_next : (s : SceneRecord) (first rows i : ℕ) → i < rows → needed s (range_with_len (first + i) (rows - i)) ≡ drawings_of (root_of s (first + i)) ++ needed s (range_with_len (first + (i + 1)) (rows - (i + 1)))
+pub needed_next : (s : SceneRecord) (first rows i : ℕ) → i < rows
+    → needed s (range_with_len (first + i) (rows - i)) ≡ drawings_of (root_of s (first + i)) ++ needed s (range_with_len (first + (i + 1)) (rows - (i + 1)))
 needed_next s first rows i within = ap (needed s) (range_next first rows i within)
+
+pub range_length : (first rows : ℕ) → length (range_with_len first rows) ≡ rows
+range_length first zero = refl
+range_length first (suc rows) = let rest = range_length (first + 1) rows in omega arith

@@ -6,28 +6,35 @@ use Rattle.std.proofs.Math.Seq.{get_or-append_seam}
 use Rattle.xs_pixel.specs.Channels.{Channels}
 use Rattle.xs_palette.specs.Styles.{written, style_of}
 use Rattle.xs_scene.specs.Records.{SceneRecord, ColoursRecord}
-use Rattle.xs_top.specs.Levels.{palettes_of, AreShown}
+use Rattle.xs_direct.specs.Coloured.{AreAsWritten}
+use Rattle.xs_top.specs.Levels.{palettes_of}
 
--- so many palettes show what those of a scene show
-abbrev pub AreShownTo : ℕ → List (List Channels) → SceneRecord → Type 0
-AreShownTo n palettes s = (p : ℕ) → p < n → style_of (get_or palettes p []) ≡ style_of (get_or (palettes_of s) p [])
+-- so many palettes are as those of a scene are written
+abbrev pub AreAsWrittenTo : ℕ → List (List Channels) → SceneRecord → Type 0
+AreAsWrittenTo n palettes s = (p : ℕ) → p < n → style_of (get_or palettes p []) ≡ style_of (get_or (palettes_of s) p [])
 
-palette_at : (s : SceneRecord) (i : ℕ) (colours : ColoursRecord) → i < length s.palettes → colours ≡ get_or s.palettes i colours → get_or (palettes_of s) i [] ≡ written colours.styles
+palette_at : (s : SceneRecord) (i : ℕ) (colours : ColoursRecord) → i < length s.palettes → colours ≡ get_or s.palettes i colours
+    → get_or (palettes_of s) i [] ≡ written colours.styles
 palette_at s i colours within is =
     get_or-map (λ palette. written palette.styles) s.palettes i colours [] within ∙ ap (λ c. written c.styles) (sym is)
 
-pub one_more_shown : (s : SceneRecord) (palettes : List (List Channels)) (next : List Channels) (i : ℕ) (colours : ColoursRecord) → i < length s.palettes → colours ≡ get_or s.palettes i colours → length palettes ≡ i → style_of next ≡ style_of (written colours.styles) → AreShownTo i palettes s → AreShownTo (i + 1) (palettes ++ next ∷ []) s
+pub one_more_shown : (s : SceneRecord) (palettes : List (List Channels)) (next : List Channels) (i : ℕ) (colours : ColoursRecord)
+    → i < length s.palettes → colours ≡ get_or s.palettes i colours → length palettes ≡ i → style_of next ≡ style_of (written colours.styles)
+    → AreAsWrittenTo i palettes s → AreAsWrittenTo (i + 1) (palettes ++ next ∷ []) s
 one_more_shown s palettes next i colours within is count shown before =
     below_more _ _
     (λ p below. let left : p < length palettes = omega (arith, count) in ap style_of (get_or_append_left palettes (next ∷ []) [] p left) ∙ before p below)
-    (ap style_of (ap (λ n. get_or (palettes ++ next ∷ []) n []) (sym count) ∙ get_or-append_seam palettes next [] []) ∙ (shown ∙ ap style_of (sym (palette_at s i colours within is))))
+    (ap style_of (ap (λ n. get_or (palettes ++ next ∷ []) n []) (sym count) ∙ get_or-append_seam palettes next [] [])
+    ∙ (shown ∙ ap style_of (sym (palette_at s i colours within is))))
 
-all_shown_by : (s : SceneRecord) (palettes : List (List Channels)) (n p : ℕ) → (p < n) ⊎ (n ≤ p) → length palettes ≡ n → length s.palettes ≡ n → AreShownTo n palettes s → style_of (get_or palettes p []) ≡ style_of (get_or (palettes_of s) p [])
+all_shown_by : (s : SceneRecord) (palettes : List (List Channels)) (n p : ℕ) → (p < n) ⊎ (n ≤ p) → length palettes ≡ n → length s.palettes ≡ n
+    → AreAsWrittenTo n palettes s → style_of (get_or palettes p []) ≡ style_of (get_or (palettes_of s) p [])
 all_shown_by s palettes n p (inl below) count all shown = shown p below
 all_shown_by s palettes n p (inr past) count all shown =
     let here : length palettes ≤ p = omega (arith, count) in
     let there : length (palettes_of s) ≤ p = omega (arith, all, length-map s.palettes (λ palette. written palette.styles)) in
     ap style_of (get_or_past palettes p [] here ∙ sym (get_or_past (palettes_of s) p [] there))
 
-pub all_shown : (s : SceneRecord) (palettes : List (List Channels)) (n : ℕ) → length palettes ≡ n → length s.palettes ≡ n → AreShownTo n palettes s → AreShown palettes s
+pub all_shown : (s : SceneRecord) (palettes : List (List Channels)) (n : ℕ) → length palettes ≡ n → length s.palettes ≡ n
+    → AreAsWrittenTo n palettes s → AreAsWritten palettes s
 all_shown s palettes n count all shown p = all_shown_by s palettes n p (cases_lt p n) count all shown

@@ -1,4 +1,4 @@
-use Rattle.std.specs.Prelude.{Bool, true, false, Result, Ok, Err}
+use Rattle.std.specs.Prelude.{◌≡◌, Bool, true, false, Result, Ok, Err}
 use Rattle.xs_fault.specs.declared.code.SceneCode.{SceneCode}
 use Rattle.xs_fault.specs.declared.code.SceneCode.TheVariants as scene
 use Rattle.xs_rawfile.specs.declared.fault.LevelCode.{LevelCode}
@@ -39,3 +39,21 @@ is_of_library status = false
 abbrev pub is_of_output : Status → Bool
 is_of_output answers.WriteFault = true
 is_of_output status = false
+
+-- an answer behind which the notes may tell more
+abbrev pub is_noting : Status → Bool
+is_noting answers.Ok = true
+is_noting answers.WriteFault = true
+is_noting status = false
+
+-- an answer that the words alone give
+abbrev pub is_of_words : Status → Bool
+is_of_words (answers.Usage usage) = true
+is_of_words answers.NotYet = true
+is_of_words status = false
+
+-- an answer of which neither the outside nor the words are the cause
+pub record IsInside (answer : Status) : Type 0 where
+  pub library : is_of_library answer ≡ false
+  pub output : is_of_output answer ≡ false
+  pub words : is_of_words answer ≡ false

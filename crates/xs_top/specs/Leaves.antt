@@ -1,32 +1,41 @@
-use Rattle.std.specs.Prelude.{◌≡◌, ◌≤◌, ◌⊎◌, ℕ, Option, None, true, false}
+use Rattle.std.specs.Prelude.{◌≡◌, ◌≤◌, ◌⊎◌, None, true, false}
 use Rattle.xs_outside.specs.Told.{Rose}
 use Rattle.xs_top.specs.declared.status.Status.{Status}
 use Rattle.xs_top.specs.declared.status.Status.TheVariants as answers
-use Rattle.xs_top.specs.Causes.{is_lost, is_of_library, is_of_output}
-use Rattle.xs_top.specs.Files.{Files}
+use Rattle.xs_top.specs.Causes.{is_lost, is_of_library, is_of_output, is_of_words, is_noting}
+use Rattle.xs_top.specs.Seen.{Faults, Seen, OutsideRecord}
 
--- what is left of a library where this is the answer: its files are the same; the count of its faults has not
--- fallen, rose where the answer is a fault of reading or, in a library that tells no files, that one is not
--- there or too long, and stands still at every other answer: no fault of it was passed over
-pub record LeavesLibrary (files files_now : Option Files) (faults faults_now : ℕ) (answer : Status) : Type 0 where
-  pub same : files_now ≡ files
-  pub later : faults ≤ faults_now
-  pub untold : files ≡ None → is_lost answer ≡ true → Rose faults faults_now
-  pub read : answer ≡ answers.ReadFault → Rose faults faults_now
-  pub silent : is_of_library answer ≡ false → faults_now ≡ faults
+-- no count has fallen
+pub record AreLater (before now : Faults) : Type 0 where
+  pub library : before.library ≤ now.library
+  pub shelf : before.shelf ≤ now.shelf
+  pub notes : before.notes ≤ now.notes
 
--- what is left of a shelf or of notes: the count of their faults has not fallen, rose where the answer is a
--- fault of writing, and stands still at every other answer
-pub record LeavesOutput (faults faults_now : ℕ) (answer : Status) : Type 0 where
-  pub later : faults ≤ faults_now
-  pub write : answer ≡ answers.WriteFault → Rose faults faults_now
-  pub silent : is_of_output answer ≡ false → faults_now ≡ faults
+-- the counts of what is written to stand still
+pub record StandStill (before now : Faults) : Type 0 where
+  pub shelf : now.shelf ≡ before.shelf
+  pub notes : now.notes ≡ before.notes
 
--- what is left of both: neither count has fallen, one of them rose where the answer is a fault of writing, and
--- both stand still at every other answer
-pub record LeavesOutputs (shelf shelf_now notes notes_now : ℕ) (answer : Status) : Type 0 where
-  pub later_shelf : shelf ≤ shelf_now
-  pub later_notes : notes ≤ notes_now
-  pub write : answer ≡ answers.WriteFault → Rose shelf shelf_now ⊎ Rose notes notes_now
-  pub silent_shelf : is_of_output answer ≡ false → shelf_now ≡ shelf
-  pub silent_notes : is_of_output answer ≡ false → notes_now ≡ notes
+-- what is left of an outside where this is the answer. The files are the same. No count of faults has fallen.
+-- The library's rose where the answer is a fault of reading or, in a library that tells no files, that one is
+-- not there or too long; the shelf's or the notes' rose where it is a fault of writing. At every other answer
+-- they stand still: no fault was passed over. The notes tell more only where all is done or writing failed
+pub record Leaves (before now : Seen) (answer : Status) : Type 0 where
+  pub files : now.files ≡ before.files
+  pub later : AreLater before.faults now.faults
+  pub read : answer ≡ answers.ReadFault → Rose before.faults.library now.faults.library
+  pub untold : before.files ≡ None → is_lost answer ≡ true → Rose before.faults.library now.faults.library
+  pub write :
+      answer ≡ answers.WriteFault
+      → Rose before.faults.shelf now.faults.shelf ⊎ Rose before.faults.notes now.faults.notes
+  pub library : is_of_library answer ≡ false → now.faults.library ≡ before.faults.library
+  pub outputs : is_of_output answer ≡ false → StandStill before.faults now.faults
+  pub notes : is_noting answer ≡ false → now.told.notes ≡ before.told.notes
+
+-- so where nothing is noted and no words are read; the library, the shelf and the notes are the ones that were
+-- borrowed
+pub record Keeps (before now : OutsideRecord) (answer : Status) : Type 0 where
+  pub left : Leaves before.seen now.seen answer
+  pub notes : now.seen.told.notes ≡ before.seen.told.notes
+  pub words : is_of_words answer ≡ false
+  pub same : now.names ≡ before.names

@@ -1,8 +1,9 @@
-use Rattle.std.specs.Prelude.{◌≡◌, ℕ, ◌&&◌, nat_lt, Bool, true, List, [], map, length, slice_index_or, flat_map, Option, None, Some, is_none, is_some, option_and_then, option_map, if◌then◌else◌}
+use Rattle.std.specs.Prelude.{◌≡◌, ℕ, ◌&&◌, ◌||◌, nat_lt, Bool, true, List, [], map, length, slice_index_or, Option, None, Some, is_none, is_some, option_and_then, option_map, if◌then◌else◌}
 use Rattle.std.specs.List.{list_all}
 use Rattle.xs_pixel.specs.Channels.{Channels}
 use Rattle.xs_pixel.specs.Picture.{Picture}
-use Rattle.xs_palette.specs.Styles.{written, style_of}
+use Rattle.xs_palette.specs.Styles.{written}
+use Rattle.xs_direct.specs.Coloured.{AreAsWritten}
 use Rattle.xs_rawfile.specs.declared.drawing.RawKind.{RawKind}
 use Rattle.xs_rawfile.specs.declared.drawing.RawKind.TheVariants as raw_kind
 use Rattle.xs_rawfile.specs.Held.{Held, picture_of, slot_in}
@@ -14,7 +15,6 @@ use Rattle.xs_scene.specs.Records.{SceneRecord, LevelRecord}
 use Rattle.xs_check.specs.Good.{files_of}
 use Rattle.xs_pixel.specs.Picture.{Pictures}
 use Rattle.xs_meaning.specs.Drawings.{level_of}
-use Rattle.xs_meaning.specs.Expressions.{drawings_of, root_of}
 use Rattle.xs_base.specs.Listed.{is_listed}
 use Rattle.xs_top.specs.Files.{Files}
 
@@ -77,17 +77,16 @@ film_of files s = option_map (λ told. pictures_of told s) files
 
 -- ---- what is held of them
 
--- palettes under which drawings have the same pixels as under those of the scene
-abbrev pub AreShown : List (List Channels) → SceneRecord → Type 0
-AreShown palettes s =
-    (p : ℕ) → style_of (slice_index_or palettes p []) ≡ style_of (slice_index_or (palettes_of s) p [])
-
 -- there is room for each drawing of a scene, under the scene's palettes
 pub record HasRoom (s : SceneRecord) (held : Held) : Type 0 where
   pub slots : length held.slots ≡ length (files_of s.levels)
   pub palettes : length held.palettes ≡ length s.palettes
-  pub shown : AreShown held.palettes s
+  pub as_written : AreAsWritten held.palettes s
 
 -- the drawings with these numbers are held, and no others
 abbrev pub Holds : Held → List ℕ → Type 0
 Holds held known = (d : ℕ) → is_some (slot_in held d) ≡ is_listed known d
+
+-- these drawings are held too, and no others
+pub record Gains (before : Held) (drawings : List ℕ) (now : Held) : Type 0 where
+  pub held : (d : ℕ) → is_some (slot_in now d) ≡ (is_some (slot_in before d) || is_listed drawings d)

@@ -4,9 +4,12 @@ pub mod Runs
 pub mod Texts
 pub mod Frames
 pub mod Levels
-pub mod Scenes
 pub mod Outcome
 pub mod Causes
 pub mod Finished
+pub mod Refused
 pub mod Rendered
+pub mod Seen
 pub mod Leaves
+pub mod Words
+pub mod Ran

@@ -12,6 +12,7 @@ use Rattle.xs_rawfile.specs.declared.fault.LevelCode.TheVariants as level_code
 use Rattle.xs_rawfile.specs.Level.{first_fault}
 use Rattle.xs_pixel.specs.Picture.{Pictures}
 use Rattle.xs_base.specs.Once.{fresh}
+use Rattle.xs_check.specs.Passes.{first_fault as scene_fault}
 use Rattle.xs_words.specs.declared.command.Command.{Command}
 use Rattle.xs_words.specs.declared.command.Command.TheVariants as command
 use Rattle.xs_words.specs.declared.fault.Usage.{Usage}
@@ -20,7 +21,7 @@ use Rattle.xs_top.specs.declared.status.Status.{Status}
 use Rattle.xs_top.specs.declared.status.Status.TheVariants as answers
 use Rattle.xs_base.specs.declared.limits.TheConstants.{SCENE_LIMIT, DRAWING_LIMIT}
 use Rattle.xs_top.specs.Trace.{Ask, Place, Line, Outcome, ended, after}
-use Rattle.xs_top.specs.Files.{Files, Verdict}
+use Rattle.xs_top.specs.Files.{Files}
 use Rattle.xs_top.specs.Frames.{frame_at}
 use Rattle.xs_top.specs.Levels.{file_of, kind_of, raw_kind_of, pictures_of}
 use Rattle.xs_meaning.specs.Expressions.{needed}
@@ -60,15 +61,15 @@ if_faultless (Some fault) next = ended (answers.Scene fault)
 if_faultless None next = next
 
 -- what the text of a scene says, and what checking finds in it
-abbrev pub decoded : Verdict → Result SceneRecord SceneFault → (SceneRecord → Outcome) → Outcome
-decoded verdict (Err fault) next = ended (answers.Scene fault)
-decoded verdict (Ok s) next = if_faultless (verdict s) (next s)
+abbrev pub decoded : Result SceneRecord SceneFault → (SceneRecord → Outcome) → Outcome
+decoded (Err fault) next = ended (answers.Scene fault)
+decoded (Ok s) next = if_faultless (scene_fault s) (next s)
 
 -- the scene is loaded
-unfoldable pub loading_scene : Files → Verdict → List ℕ → (SceneRecord → Outcome) → Outcome
-loading_scene files verdict name next =
+unfoldable pub loading_scene : Files → List ℕ → (SceneRecord → Outcome) → Outcome
+loading_scene files name next =
     asking files name SCENE_LIMIT (no_scene scene_code.NoScene) (no_scene scene_code.TooLong)
-    (λ bytes. decoded verdict (scene_of bytes) next)
+    (λ bytes. decoded (scene_of bytes) next)
 
 -- ---- the drawings
 
@@ -124,29 +125,29 @@ abbrev pub rendering_scene : Files → ℕ → ℕ → List ℕ → SceneRecord 
 rendering_scene files from to base s =
     rendering_sections files s base [] (sections_of from to) (closing (to + 1 - from))
 
-unfoldable pub rendering : Files → Verdict → List ℕ → ℕ → ℕ → List ℕ → Outcome
-rendering files verdict name from to base = loading_scene files verdict name (rendering_scene files from to base)
+unfoldable pub rendering : Files → List ℕ → ℕ → ℕ → List ℕ → Outcome
+rendering files name from to base = loading_scene files name (rendering_scene files from to base)
 
 -- the text of a scene in format 2 is written
 abbrev pub showing_scene : SceneRecord → Outcome
 showing_scene s = noting (compact_text (scene_data (record s { format = 2 }))) (ended answers.Ok)
 
-unfoldable pub showing : Files → Verdict → List ℕ → Outcome
-showing files verdict name = loading_scene files verdict name showing_scene
+unfoldable pub showing : Files → List ℕ → Outcome
+showing files name = loading_scene files name showing_scene
 
 -- a command is carried out
-unfoldable pub commanding : Files → Verdict → Command → Outcome
-commanding files verdict (command.Render scene from to workers base) = rendering files verdict scene from to base
-commanding files verdict (command.Dry scene from to) = ended answers.NotYet
-commanding files verdict (command.Show scene) = showing files verdict scene
-commanding files verdict (command.Make seed rows workers) = ended answers.NotYet
-commanding files verdict (command.Again old new from to workers base) = ended answers.NotYet
+unfoldable pub commanding : Files → Command → Outcome
+commanding files (command.Render scene from to workers base) = rendering files scene from to base
+commanding files (command.Dry scene from to) = ended answers.NotYet
+commanding files (command.Show scene) = showing files scene
+commanding files (command.Make seed rows workers) = ended answers.NotYet
+commanding files (command.Again old new from to workers base) = ended answers.NotYet
 
 -- words are a command, or none
-abbrev pub obeying : Files → Verdict → Result Command Usage → Outcome
-obeying files verdict (Err usage) = ended (answers.Usage usage)
-obeying files verdict (Ok command) = commanding files verdict command
+abbrev pub obeying : Files → Result Command Usage → Outcome
+obeying files (Err usage) = ended (answers.Usage usage)
+obeying files (Ok command) = commanding files command
 
 -- the outcome of these words over a library of these files
-unfoldable pub outcome : Files → Verdict → List (List ℕ) → Outcome
-outcome files verdict words = obeying files verdict (reading_of words)
+unfoldable pub outcome : Files → List (List ℕ) → Outcome
+outcome files words = obeying files (reading_of words)

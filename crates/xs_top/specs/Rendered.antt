@@ -1,8 +1,16 @@
-use Rattle.std.specs.Prelude.{◌≡◌, ℕ, ◌+◌, ◌-◌, List, [], ◌∷◌, ◌++◌, take, Option, None, map}
+use Rattle.std.specs.Prelude.{◌≡◌, ℕ, ◌+◌, ◌-◌, ◌*◌, ◌<◌, pos, List, [], ◌∷◌, ◌++◌, length, slice_index_or, take, Option, None, map}
 use Rattle.xs_outside.specs.declared.object.Object.{Object}
+use Rattle.serde_json.specs.Written.{compact_text}
+use Rattle.xs_scene_json.specs.SceneData.{scene_data}
 use Rattle.xs_outside.specs.Told.{more}
 use Rattle.xs_scene.specs.Records.{SceneRecord}
-use Rattle.xs_check.specs.Passes.{Checking}
+use Rattle.xs_check.specs.Good.{IsGood}
+use Rattle.xs_check.specs.Passes.{first_fault}
+use Rattle.xs_pixel.specs.Channels.{Channels}
+use Rattle.xs_pixel.specs.Picture.{Pictures, ArePixels}
+use Rattle.xs_pixel.specs.Points.{point, plus}
+use Rattle.xs_meaning.specs.RowValues.{row_of, camera_at, frame_of}
+use Rattle.xs_meaning.specs.Tables.{ColumnsFollow, NodesFollow, RowsFollow}
 use Rattle.xs_base.specs.Once.{each_once}
 use Rattle.xs_top.specs.Trace.{Contents}
 use Rattle.xs_top.specs.Files.{Files}
@@ -20,7 +28,7 @@ use Rattle.xs_top.specs.Outcome.{rendered_line}
 pub record IsRendered (files : Files) (name base : List ℕ) (from to : ℕ) (before now : Contents) : Type 0 where
   pub scene : SceneRecord
   pub says : Says files name scene
-  pub faultless : Checking scene None
+  pub faultless : first_fault scene ≡ None
   pub accepted : AreAccepted files scene (rows_of from to)
   pub asked : now.asked ≡ more before.asked (name ∷ map (file_of scene) (each_once (needed scene (rows_of from to))))
   pub frames : now.shelf ≡ more before.shelf (frames_of files scene base (rows_of from to))
@@ -32,3 +40,28 @@ pub record GainedFrames (files : Files) (name base : List ℕ) (from to : ℕ) (
       (s : SceneRecord) → Says files name s →
       (rows : ℕ) × (now ≡ more before (take rows (frames_of files s base (rows_of from to))))
   pub none : ((s : SceneRecord) → Says files name s → ⊥) → now ≡ before
+
+-- the rows of a scene show what the rules give. The scene is good, so that all walks over it end; its pictures are
+-- pixels; the values of its columns, nodes and rows are those of the tables; and a frame has for each point that
+-- the camera sees, row by row and each from left to right, the pixel of the row there
+pub record ShowsTheRules (s : SceneRecord) (pictures : Pictures) : Type 0 where
+  pub good : IsGood s
+  pub pixels : ArePixels pictures
+  pub columns : ColumnsFollow s pictures
+  pub nodes : NodesFollow s pictures
+  pub rows : RowsFollow s pictures
+  pub count : (row : ℕ) → length (frame_of s pictures row) ≡ s.camera.h * s.camera.w
+  pub order :
+      (row x y : ℕ) (outside : Channels) → x < s.camera.w → y < s.camera.h
+      → slice_index_or (frame_of s pictures row) (y * s.camera.w + x) outside
+      ≡ row_of s pictures 0 row (plus (point (pos x) (pos y)) (camera_at s row))
+
+-- ---- a scene that is shown
+
+-- the library was asked for the scene, which has no fault, and its text in format 2 is written
+pub record IsShown (files : Files) (name : List ℕ) (before now : Contents) : Type 0 where
+  pub scene : SceneRecord
+  pub says : Says files name scene
+  pub faultless : first_fault scene ≡ None
+  pub asked : now.asked ≡ more before.asked (name ∷ [])
+  pub line : now.notes ≡ more before.notes (compact_text (scene_data (record scene { format = 2 })) ++ 10 ∷ [])

@@ -1,7 +1,9 @@
-use Rattle.std.specs.Prelude.{◌≡◌, ℕ, ◌⊎◌, List, [], ◌∷◌, ◌++◌, take, Bool, true, false, Result, MatchResult}
+use Rattle.std.specs.Prelude.{◌≡◌, ℕ, ◌⊎◌, List, [], ◌∷◌, ◌++◌, take, Bool, true, false, Some, Result, MatchResult}
+use Rattle.xs_outside.specs.Told.{Rose, more}
 use Rattle.xs_outside.specs.declared.object.Object.{Object}
-use Rattle.xs_outside.specs.Told.{more}
-use Rattle.xs_top.specs.Trace.{Event, Ask, Place, Line, asks, puts, lines, Outcome, ended, after, Contents, grown, with_notes}
+use Rattle.xs_top.specs.Trace.{Event, Ask, Place, Line, asks, puts, lines, Outcome, ended, after, Contents, grown}
+use Rattle.xs_top.specs.Files.{Files}
+use Rattle.xs_top.specs.Seen.{Seen, OutsideRecord}
 use Rattle.xs_top.specs.declared.status.Status.{Status}
 use Rattle.xs_top.specs.declared.status.Status.TheVariants as answers
 
@@ -16,7 +18,7 @@ pub record Did (all left : Outcome) (before now : Contents) : Type 0 where
 -- a line was begun, of which some bytes may be written
 pub record BrokeOff (line : List ℕ) (before now : Contents) : Type 0 where
   pub written : ℕ
-  pub told : now ≡ with_notes before (more before.notes (take written (line ++ 10 ∷ [])))
+  pub told : now ≡ record before { notes = more before.notes (take written (line ++ 10 ∷ [])) }
 
 -- a part was done up to a file that the shelf did not take
 pub record StoppedPlacing (all : Outcome) (before now : Contents) : Type 0 where
@@ -41,16 +43,36 @@ pub record StoppedAsking (all : Outcome) (before now : Contents) : Type 0 where
   pub did : Did all (after (Ask name ∷ []) left) before whole
   pub asked : now ≡ grown whole (Ask name ∷ [])
 
--- what was done where a run stopped with this status
-abbrev pub Stopped : Outcome → Contents → Contents → Status → Type 0
-Stopped all before now answers.ReadFault = StoppedAsking all before now
-Stopped all before now answers.WriteFault = StoppedPlacing all before now ⊎ StoppedNoting all before now
-Stopped all before now answers.Memory = (left : Outcome) × Did all left before now
-Stopped all before now status = Did all (ended status) before now
+-- what was done where a run stopped with this status; after a fault of writing, whose fault it was
+unfoldable pub Stopped : Outcome → Seen → Seen → Status → Type 0
+Stopped all before now answers.ReadFault = StoppedAsking all before.told now.told
+Stopped all before now answers.WriteFault =
+    (StoppedPlacing all before.told now.told × Rose before.faults.shelf now.faults.shelf)
+    ⊎ (StoppedNoting all before.told now.told × Rose before.faults.notes now.faults.notes)
+Stopped all before now answers.Memory = (left : Outcome) × Did all left before.told now.told
+Stopped all before now status = Did all (ended status) before.told now.told
 
 -- a part of a run came through to what is left, or stopped
-abbrev pub Runs : {A : Type 0} → Outcome → (A → Outcome) → Contents → Contents → Result A Status → Type 0
-Runs all left before now result = MatchResult result (λ value. Did all (left value) before now) (Stopped all before now)
+abbrev pub Runs : {A : Type 0} → Outcome → (A → Outcome) → Seen → Seen → Result A Status → Type 0
+Runs all left before now result =
+    MatchResult result (λ value. Did all (left value) before.told now.told) (Stopped all before now)
+
+-- where the library tells its files, this part was done, whatever is to follow its value
+abbrev pub Gives : {A : Type 0} → (Files → (A → Outcome) → Outcome) → OutsideRecord → OutsideRecord → Result A Status → Type 0
+Gives {A} part before now result =
+    (files : Files) → before.seen.files ≡ Some files → (next : A → Outcome)
+    → Runs (part files next) next before.seen now.seen result
+
+-- where the library tells its files, this part was done, whatever is to follow it
+abbrev pub Does : {A : Type 0} → (Files → Outcome → Outcome) → OutsideRecord → OutsideRecord → Result A Status → Type 0
+Does part before now result =
+    (files : Files) → before.seen.files ≡ Some files → (next : Outcome)
+    → Runs (part files next) (λ _. next) before.seen now.seen result
+
+-- where the library tells its files, all of this was done, and the run ended well
+abbrev pub Ends : {A : Type 0} → (Files → Outcome) → OutsideRecord → OutsideRecord → Result A Status → Type 0
+Ends all before now result =
+    (files : Files) → before.seen.files ≡ Some files → Runs (all files) (λ _. ended answers.Ok) before.seen now.seen result
 
 -- ---- a whole run
 
@@ -70,9 +92,13 @@ pub record GainedFront (all : Outcome) (before now : Contents) : Type 0 where
 -- what a run with this outcome has done where it answers so: but for faults and want of memory the
 -- answer and all the work are the outcome's; in each case a front part of the work was done, of all three
 -- lists together; after a fault of reading exactly the part up to the file that was asked for last, and
--- after one of writing exactly the part before the file or the line that was not taken
-pub record IsRun (all : Outcome) (before now : Contents) (result : Status) : Type 0 where
+-- after one of writing exactly the part before the file or the line that was not taken; after one of writing
+-- that is not the shelf's, each file stands on the shelf
+pub record IsRun (all : Outcome) (before now : Seen) (result : Status) : Type 0 where
   pub answer : is_broken result ≡ false → result ≡ all.status
-  pub whole : is_broken result ≡ false → now ≡ grown before all.work
-  pub front : GainedFront all before now
+  pub whole : is_broken result ≡ false → now.told ≡ grown before.told all.work
+  pub front : GainedFront all before.told now.told
   pub stopped : Stopped all before now result
+  pub placed :
+      result ≡ answers.WriteFault
+      → (now.told.shelf ≡ more before.told.shelf (puts all.work)) ⊎ Rose before.faults.shelf now.faults.shelf

@@ -1,4 +1,4 @@
-use Rattle.std.specs.Prelude.{◌≡◌, ℕ, List, [], ◌∷◌, ◌++◌, codes, decimal}
+use Rattle.std.specs.Prelude.{ℕ, List, [], ◌∷◌, ◌++◌, codes, decimal}
 use Rattle.xs_fault.specs.Codes.{code_number, code_name}
 use Rattle.xs_fault.specs.declared.fault.SceneFault.{SceneFault}
 use Rattle.xs_fault.specs.declared.fault.FieldFault.{FieldFault}
@@ -68,9 +68,9 @@ text_of answers.Memory = codes "out of memory"
 text_of answers.NotYet = codes "not built yet"
 
 -- the status of a fault of the words
-abbrev pub IsStatusOf : WordsFault → Status → Type 0
-IsStatusOf (words.Usage usage) status = status ≡ answers.Usage usage
-IsStatusOf words.Memory status = status ≡ answers.Memory
+abbrev pub words_status : WordsFault → Status
+words_status (words.Usage usage) = answers.Usage usage
+words_status words.Memory = answers.Memory
 
 -- the status of a fault of a scene
 abbrev pub scene_status : FieldFault → Status

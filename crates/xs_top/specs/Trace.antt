@@ -61,13 +61,3 @@ grown seen events = record {
   shelf = more seen.shelf (puts events);
   notes = more seen.notes (lines events);
 }
-
--- one of the three tells something else
-abbrev pub with_asked : Contents → Option (List (List ℕ)) → Contents
-with_asked seen asked = record seen { asked = asked }
-
-abbrev pub with_shelf : Contents → Option (List Object) → Contents
-with_shelf seen shelf = record seen { shelf = shelf }
-
-abbrev pub with_notes : Contents → Option (List ℕ) → Contents
-with_notes seen notes = record seen { notes = notes }

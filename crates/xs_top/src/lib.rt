@@ -5,20 +5,25 @@
 #![tactic(auto)]
 
 mod command;
+mod drawing_laws;
+mod frame_laws;
 mod frames;
 mod laws;
 mod levels;
+mod outside;
 mod palettes;
 mod render;
 mod scene;
+mod scene_laws;
 mod status;
-mod steps;
 mod texts;
 
 pub use command::run;
-pub use laws::{
-    a_file_is_asked_for_behind_whole_sections, a_good_scene_is_rendered,
-    every_verdict_gives_one_outcome, files_have_their_limits, only_a_good_scene_is_rendered,
+pub use drawing_laws::{
+    drawings_are_asked_for_in_their_section, the_first_refused_drawing_is_told,
 };
+pub use frame_laws::{frames_have_names_of_their_own, sections_have_eight_rows};
+pub use laws::{a_good_scene_is_rendered, files_have_their_limits, only_a_good_scene_is_rendered};
+pub use scene_laws::scenes_without_a_file_are_told;
 pub use status::{Status, status_number};
 pub use texts::fault_text;

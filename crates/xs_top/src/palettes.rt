@@ -1,7 +1,7 @@
 ghost use Rattle.std.specs.Prelude.{◌≡◌, ◌≤◌, length, IfOk};
 ghost use Rattle.xs_base.specs.declared.limits.TheConstants.{MOST_STYLES};
 ghost use Rattle.xs_palette.specs.Styles.{written, style_of};
-ghost use Rattle.xs_top.specs.Levels.{AreShown};
+ghost use Rattle.xs_direct.specs.Coloured.{AreAsWritten};
 
 use std::alloc::Global;
 use xs_base::{List, Memory};
@@ -12,7 +12,7 @@ use xs_scene::Colours;
 /// The palettes of a scene as they are written.
 pub(crate) fn palettes(alloc: Global, good: &GoodScene) -> Result<List<Palette>, Memory>
     ensures count { IfOk result (λ palettes. length palettes ≡ length good.now.palettes) }
-    ensures shown { IfOk result (λ palettes. AreShown palettes good.now) }
+    ensures written { IfOk result (λ palettes. AreAsWritten palettes good.now) }
 {
     let scene = good.scene();
     let mut palettes = Vec::with_capacity(alloc, scene.palettes.items().len())?;

@@ -1,5 +1,5 @@
 ghost use Rattle.std.specs.Prelude.{◌≡◌};
-ghost use Rattle.xs_top.specs.Texts.{status_number, IsStatusOf, scene_status};
+ghost use Rattle.xs_top.specs.Texts.{status_number};
 
 use xs_base::Memory;
 use xs_fault::{FieldFault, SceneFault};
@@ -37,23 +37,29 @@ impl From<Memory> for Status {
     }
 }
 
-/// The status of a fault of the words.
-pub(crate) fn status_of(fault: WordsFault) -> Status
-    ensures { IsStatusOf fault result }
-{
-    match fault {
-        WordsFault::Usage(usage) => Status::Usage(usage),
-        WordsFault::Memory => Status::Memory,
+impl From<WordsFault> for Status {
+    ghost use Rattle.xs_top.specs.Texts.{words_status};
+
+    ghost from_gives = { λ fault status. status ≡ words_status fault };
+
+    fn from(fault: WordsFault) -> Status {
+        match fault {
+            WordsFault::Usage(usage) => Status::Usage(usage),
+            WordsFault::Memory => Status::Memory,
+        }
     }
 }
 
-/// The status of a fault of a scene.
-pub(crate) fn status_of_scene(fault: FieldFault) -> Status
-    ensures { result ≡ scene_status fault }
-{
-    match fault {
-        FieldFault::Fault(fault) => Status::Scene(fault),
-        FieldFault::Memory => Status::Memory,
+impl From<FieldFault> for Status {
+    ghost use Rattle.xs_top.specs.Texts.{scene_status};
+
+    ghost from_gives = { λ fault status. status ≡ scene_status fault };
+
+    fn from(fault: FieldFault) -> Status {
+        match fault {
+            FieldFault::Fault(fault) => Status::Scene(fault),
+            FieldFault::Memory => Status::Memory,
+        }
     }
 }
 

@@ -1,11 +1,11 @@
 use Rattle.std.proofs.Common.{◌≡◌, ◌<◌, true, false, is_err, length, arith}
 use Rattle.xs_fault.specs.Paths.{index_at}
-use Rattle.xs_check.specs.Finding.{EachAt}
+use Rattle.xs_check.specs.Finding.{in_list}
 use Rattle.xs_check.proofs.Findings.{each_passed, each_failed, finds_none}
 use Rattle.xs_check.proofs.finding.each_at.Goals as goal
 
 pub returns-then-is_err : goal.returns-then-is_err
-unfolding EachAt
+unfolding in_list
 returns-then-is_err g c =
     let below : c.loop-i.i < length c.args.items.now = omega arith in
     let at : c.item.result ≡ index_at c.args.at.now c.loop-i.i = let k = c.in-Ok.ensures in cc in

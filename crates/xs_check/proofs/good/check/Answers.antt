@@ -1,14 +1,12 @@
 use Rattle.std.proofs.Common.{List, length, ap, ◌∙◌, subst}
 use Rattle.xs_scene.specs.Records.{SceneRecord, LevelRecord}
 use Rattle.xs_check.specs.Readers.{IsNumbering}
-use Rattle.xs_check.proofs.Goods.{good_scene}
 use Rattle.xs_check.proofs.good.check.Goals as goal
 
 pub invariant_of-result : goal.invariant_of-result
 invariant_of-result c =
     record {
-      good = good_scene c.chains_are_told_link_by_link.ensures c.chains_without_a_cycle_are_short.ensures c.args.s c.in_ok-index.ensures.found
-          c.in_range.ensures;
+      good = c.scenes_without_a_fault_are_good.ensures.good c.args.s c.in_ok-index.ensures.found c.in_range.ensures;
       index_of = c.in_ok-index.ensures.index;
       numbering =
           subst

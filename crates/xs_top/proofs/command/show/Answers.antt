@@ -1,40 +1,37 @@
 use Rattle.std.proofs.Common.{refl}
 use Rattle.std.proofs.lemmas.Result.{err_from_is_err_and}
 use Rattle.xs_top.specs.declared.status.Status.TheVariants as answers
-use Rattle.xs_top.specs.Trace.{ended, Contents, with_asked, with_notes}
+use Rattle.xs_top.specs.Trace.{ended}
 use Rattle.xs_top.specs.Outcome.{showing, showing_scene}
-use Rattle.xs_top.proofs.Parts.{did_then, stopped_then}
+use Rattle.xs_top.proofs.Parts.{runs_then, stopped_memory, leaves_nothing, leaves_then}
 use Rattle.xs_top.proofs.command.show.Goals as goal
 
-pub returns-in_err-good-clause-told : goal.returns-in_err-good-clause-told
+pub returns-in_err-good-clause-did : goal.returns-in_err-good-clause-did
 unfolding showing
-returns-in_err-good-clause-told g c = λ files e verdict right seen.
+returns-in_err-good-clause-did g c = λ files e.
     let p = err_from_is_err_and c.from_residual.result c.from_residual.ensures.1 in
-    let before : Contents = with_notes seen (g.T.Notes.written c.args.notes.now) in
-    rw (p.1, p.2) (c.in_err-good.ensures.told files e verdict right showing_scene before)
+    rw (p.1, p.2) (c.in_err-good.ensures.did files e showing_scene)
 
-pub returns-in_err-line-clause-told : goal.returns-in_err-line-clause-told
+pub returns-in_err-line-clause-did : goal.returns-in_err-line-clause-did
 unfolding showing
-returns-in_err-line-clause-told g c = λ files e verdict right seen.
+returns-in_err-line-clause-did g c = λ files e.
     let p = err_from_is_err_and c.from_residual-in_err-line.result c.from_residual-in_err-line.ensures.1 in
-    let before : Contents = with_notes seen (g.T.Notes.written c.args.notes.now) in
-    rw (p.1, p.2) (_, c.in_ok-good.ensures.told files e verdict right showing_scene before)
+    rw (p.1, p.2) (stopped_memory _ _ _ _ (c.in_ok-good.ensures.did files e showing_scene))
 
-pub returns-in_err-note-clause-told : goal.returns-in_err-note-clause-told
-unfolding showing
-returns-in_err-note-clause-told g c = λ files e verdict right seen.
-    let p = err_from_is_err_and c.from_residual-in_err-note.result c.from_residual-in_err-note.ensures.1 in
-    let before : Contents = with_notes seen (g.T.Notes.written c.args.notes.now) in
-    let loaded = c.in_ok-good.ensures.told files e verdict right showing_scene before in
-    let read : Contents = with_asked seen (g.L.Library.asked c.load_scene.new.lib) in
-    let noted = rw (c.as_slice.ensures.value, c.in_ok-line.ensures) at (c.in_err-note.ensures.told (ended answers.Ok) refl read) in
-    rw (p.1, p.2) (stopped_then _ _ _ _ _ _ loaded noted)
+pub returns-in_err-line-clause-leaves : goal.returns-in_err-line-clause-leaves
+returns-in_err-line-clause-leaves g c =
+    let p = err_from_is_err_and c.from_residual-in_err-line.result c.from_residual-in_err-line.ensures.1 in
+    let keeps = c.in_ok-good.ensures.keeps in
+    rw (p.1, p.2) (leaves_then _ _ _ _ keeps.left keeps.notes (leaves_nothing _ _ refl refl))
 
-pub returns-clause-told : goal.returns-clause-told
+pub returns-clause-did : goal.returns-clause-did
 unfolding showing
-returns-clause-told g c = λ files e verdict right seen.
-    let before : Contents = with_notes seen (g.T.Notes.written c.args.notes.now) in
-    let loaded = c.in_ok-good.ensures.told files e verdict right showing_scene before in
-    let read : Contents = with_asked seen (g.L.Library.asked c.load_scene.new.lib) in
-    let noted = rw (c.as_slice.ensures.value, c.in_ok-line.ensures) at (c.in_ok-note.ensures.told (ended answers.Ok) refl read) in
-    did_then loaded noted
+returns-clause-did g c = λ files e.
+    let loaded = c.in_ok-good.ensures.did files e showing_scene in
+    let noted = rw (c.as_slice.ensures.value, c.in_ok-line.ensures) at (c.note.ensures.did (ended answers.Ok) refl) in
+    runs_then _ _ _ _ _ _ _ loaded c.in_ok-good.ensures.keeps.left noted
+
+pub returns-clause-leaves : goal.returns-clause-leaves
+returns-clause-leaves g c =
+    let keeps = c.in_ok-good.ensures.keeps in
+    leaves_then _ _ _ _ keeps.left keeps.notes c.note.ensures.leaves

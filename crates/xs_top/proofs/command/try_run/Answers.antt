@@ -1,20 +1,25 @@
 use Rattle.std.proofs.lemmas.Result.{err_from_is_err_and}
+use Rattle.xs_top.proofs.Commands.{command_obeyed, words_stopped, words_leave, words_heeded, command_heeded}
 use Rattle.xs_top.proofs.command.try_run.Goals as goal
 
-pub returns-in_err-command-clause-told : goal.returns-in_err-command-clause-told
-returns-in_err-command-clause-told g c = λ files e verdict right.
+pub returns-in_err-command-clause-did : goal.returns-in_err-command-clause-did
+returns-in_err-command-clause-did g c = λ files e.
     let p = err_from_is_err_and c.from_residual.result c.from_residual.ensures.1 in
-    rw (p.1, p.2) (c.in_err-command.ensures.told files verdict _)
+    rw (p.1, p.2) (words_stopped files _ _ _ (rw c.as_slice.ensures.value at c.in_err-command.ensures.reading))
 
-pub returns-in_err-obey-clause-told : goal.returns-in_err-obey-clause-told
-returns-in_err-obey-clause-told g c = λ files e verdict right.
-    let p = err_from_is_err_and c.from_residual-in_err-obey.result c.from_residual-in_err-obey.ensures.1 in
-    rw (p.1, p.2, c.in_ok-command.ensures.command files verdict) (c.in_err-obey.ensures.told files e verdict right)
+pub returns-in_err-command-clause-leaves : goal.returns-in_err-command-clause-leaves
+returns-in_err-command-clause-leaves g c =
+    let p = err_from_is_err_and c.from_residual.result c.from_residual.ensures.1 in
+    rw (p.1, p.2) (words_leave _ _)
 
-pub returns-in_err-obey-clause-placed : goal.returns-in_err-obey-clause-placed
-returns-in_err-obey-clause-placed g c = λ files e verdict right broken.
-    let p = err_from_is_err_and c.from_residual-in_err-obey.result c.from_residual-in_err-obey.ensures.1 in
-    rw (c.in_ok-command.ensures.command files verdict) (c.in_err-obey.ensures.placed files e verdict right (cc (p.1, p.2, broken)))
+pub returns-in_err-command-clause-heeds : goal.returns-in_err-command-clause-heeds
+returns-in_err-command-clause-heeds g c =
+    let p = err_from_is_err_and c.from_residual.result c.from_residual.ensures.1 in
+    rw (p.1, p.2) (words_heeded _ _ _ (rw c.as_slice.ensures.value at c.in_err-command.ensures.reading))
 
-pub returns-clause-told : goal.returns-clause-told
-returns-clause-told g c = λ files e verdict right. rw (c.in_ok-command.ensures.command files verdict) (c.in_ok-obey.ensures.told files e verdict right)
+pub returns-clause-did : goal.returns-clause-did
+returns-clause-did g c = λ files e.
+    rw (command_obeyed files _ _ (rw c.as_slice.ensures.value at c.in_ok-command.ensures.reading)) (c.obey.ensures.did files e)
+
+pub returns-clause-heeds : goal.returns-clause-heeds
+returns-clause-heeds g c = command_heeded _ _ _ _ _ (rw c.as_slice.ensures.value at c.in_ok-command.ensures.reading) c.obey.ensures.heeds

@@ -1,25 +1,26 @@
-use Rattle.std.proofs.Common.{◌≡◌, ◌≤◌, ◌+◌, ◌-◌, ℕ, List, ◌++◌, Some}
+use Rattle.std.proofs.Common.{◌≡◌, ◌+◌, ◌-◌, ℕ, List, ◌++◌, Some}
 use Rattle.std.specs.List.{range_with_len}
 use Rattle.xs_base.specs.Once.{fresh}
-use Rattle.xs_top.specs.Trace.{Outcome, Contents, with_asked}
+use Rattle.xs_meaning.specs.Expressions.{needed}
+use Rattle.xs_top.specs.declared.status.Status.TheVariants as answers
+use Rattle.xs_top.specs.Trace.{Outcome}
+use Rattle.xs_top.specs.Leaves.{Keeps}
 use Rattle.xs_top.specs.Runs.{Did}
 use Rattle.xs_top.specs.Files.{Files}
-use Rattle.xs_top.specs.Levels.{HasRoom, Holds}
-use Rattle.xs_meaning.specs.Expressions.{needed}
+use Rattle.xs_top.specs.Levels.{HasRoom, Holds, Gains}
 use Rattle.xs_top.specs.Outcome.{loading}
 use Rattle.xs_top.proofs.levels.load_rows.Given as goal
 
 abbrev pub invariant-loop-i : goal.invariant-loop-i
 invariant-loop-i g l =
     record {
-      told : (files : Files) → g.L.Library.files l.initial.lib ≡ Some files → (known : List ℕ) → Holds l.initial.drawings known
-          → (next : Outcome) (seen : Contents)
+      did : (known : List ℕ) → Holds l.initial.drawings known → (files : Files) → (g.O.Outside.view l.initial.outside).seen.files ≡ Some files
+          → (next : Outcome)
           → Did (loading files l.good (fresh known (needed l.good (range_with_len l.first l.rows))) next)
-          (loading files l.good (fresh (known ++ needed l.good (range_with_len l.first l.i)) (needed l.good (range_with_len (l.first + l.i) (l.rows - l.i)))) next)
-          (with_asked seen (g.L.Library.asked l.initial.lib)) (with_asked seen (g.L.Library.asked l.lib));
-      held : (known : List ℕ) → Holds l.initial.drawings known → Holds l.drawings (known ++ needed l.good (range_with_len l.first l.i));
+          (loading files l.good
+          (fresh (known ++ needed l.good (range_with_len l.first l.i)) (needed l.good (range_with_len (l.first + l.i) (l.rows - l.i)))) next)
+          (g.O.Outside.view l.initial.outside).seen.told (g.O.Outside.view l.outside).seen.told;
+      gains : Gains l.initial.drawings (needed l.good (range_with_len l.first l.i)) l.drawings;
       room : HasRoom l.good l.drawings;
-      same : g.L.Library.files l.lib ≡ g.L.Library.files l.initial.lib;
-      later : g.L.Library.faults l.initial.lib ≤ g.L.Library.faults l.lib;
-      silent : g.L.Library.faults l.lib ≡ g.L.Library.faults l.initial.lib;
+      keeps : Keeps (g.O.Outside.view l.initial.outside) (g.O.Outside.view l.outside) answers.Ok;
     }

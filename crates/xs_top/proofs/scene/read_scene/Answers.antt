@@ -1,18 +1,28 @@
-use Rattle.std.proofs.Common.{ap, ◌∙◌}
-use Rattle.xs_top.specs.Causes.{is_of_library}
+use Rattle.std.proofs.lemmas.Result.{err_from_is_err_and}
 use Rattle.xs_top.proofs.Parts.{did_nothing}
-use Rattle.xs_top.proofs.Verdicts.{scene_read, scene_refused, fault_kept}
+use Rattle.xs_top.proofs.Scenes.{scene_read, text_refused, scene_refused, text_inside, scene_inside}
 use Rattle.xs_top.proofs.scene.read_scene.Goals as goal
 
-pub returns-in-Ok-clause-told : goal.returns-in-Ok-clause-told
-returns-in-Ok-clause-told c = λ verdict right next seen.
-    rw (scene_read c.checking_finds_one_thing.ensures.one verdict _ next right _ c.in-Ok.ensures.0 c.in-Ok.ensures.1) (did_nothing _ _)
+pub returns-in_err-scene-clause-did : goal.returns-in_err-scene-clause-did
+returns-in_err-scene-clause-did c = λ next seen.
+    let p = err_from_is_err_and c.from_residual.result c.from_residual.ensures.1 in
+    rw (p.1, p.2) (text_refused _ next seen _ c.in_err-scene.ensures)
 
-pub returns-in-Err-clause-told : goal.returns-in-Err-clause-told
-returns-in-Err-clause-told c = λ verdict right next seen.
-    rw c.status_of_scene.ensures (scene_refused c.checking_finds_one_thing.ensures.one verdict _ next right seen _ c.in-Err.ensures)
+pub returns-in_err-scene-clause-inside : goal.returns-in_err-scene-clause-inside
+returns-in_err-scene-clause-inside c =
+    let p = err_from_is_err_and c.from_residual.result c.from_residual.ensures.1 in
+    rw (p.1, p.2) (text_inside c.text_faults.ensures c.args.bytes.now _ c.in_err-scene.ensures)
 
-pub returns-in-Err-clause-library : goal.returns-in-Err-clause-library
-returns-in-Err-clause-library c =
-    ap is_of_library c.status_of_scene.ensures
-    ∙ fault_kept c.checking_finds_its_codes.ensures c.text_faults.ensures c.args.bytes.now c.in-Err.fault c.in-Err.ensures
+pub returns-in_err-good-clause-did : goal.returns-in_err-good-clause-did
+returns-in_err-good-clause-did c = λ next seen.
+    let p = err_from_is_err_and c.from_residual-in_err-good.result c.from_residual-in_err-good.ensures.1 in
+    rw (p.1, p.2) (scene_refused _ next seen _ _ c.in_ok-scene.ensures c.in_err-good.ensures.checked)
+
+pub returns-in_err-good-clause-inside : goal.returns-in_err-good-clause-inside
+returns-in_err-good-clause-inside c =
+    let p = err_from_is_err_and c.from_residual-in_err-good.result c.from_residual-in_err-good.ensures.1 in
+    rw (p.1, p.2) (scene_inside c.checking_finds_its_codes.ensures _ _ c.in_err-good.ensures.checked)
+
+pub returns-clause-did : goal.returns-clause-did
+returns-clause-did c = λ next seen.
+    rw (c.in_ok-good.ensures.same) (rw (scene_read _ next _ c.in_ok-scene.ensures c.in_ok-good.ensures.checked) (did_nothing _ _))

@@ -1,42 +1,41 @@
-use Rattle.std.proofs.Common.{◌≡◌, pos, ◌+ℤ◌, w32, arith}
-use Rattle.std.proofs.lemmas.Int.{ints, to_z_pos, to_z-of_z, fits_signed_from_abs}
-use Rattle.xs_raster.proofs.Pasting.{pasted_none, pasted_more, pasted_all, pasted_apart}
+use Rattle.std.proofs.Common.{◌≡◌, ◌<◌, length, take, drop, ◌++◌, ap, sym, ◌∙◌, subst, arith}
+use Rattle.std.proofs.lemmas.List.{take_at}
+use Rattle.xs_pixel.specs.PixelRows.{pixels}
+use Rattle.xs_raster.specs.Bitmap.{Bitmap, bitmap, bitmap_of}
+use Rattle.xs_raster.specs.Changes.{Pastes}
+use Rattle.xs_raster.proofs.Blank.{backed, bitmap-backed, written}
 use Rattle.xs_raster.proofs.raster.Raster.paste.Goals as goal
 
-pub paste_row-requires-clause-up : goal.paste_row-requires-clause-up
-paste_row-requires-clause-up c =
-    let i = to_z_pos w32 c.loop-i.i (omega arith) in
-    let low = to_z-of_z w32 c.y.result (record { sfits = omega (arith, ints) }) in
-    let y = to_z-of_z w32 (c.y.result +ℤ pos c.loop-i.i) (fits_signed_from_abs w32 _ (omega (arith, ints))) in
-    rw (low, i, y, c.y.ensures.value) (record { least = omega (arith, ints); below = omega (arith, ints) })
+-- the bytes that the raster then holds
+stored :
+    (c : goal.After-self-1)
+    → take c.self.inside.bytes.len (c.paste_into.new.bytes ++ drop (length c.paste_into.new.bytes) c.self.inside.bytes.items) ≡ c.paste_into.new.bytes
+stored c = take_at _ _ _ (c.paste_into.auto.bytes ∙ c.deref_mut.ensures.len)
 
-pub paste_row-requires-clause-mine : goal.paste_row-requires-clause-mine
-paste_row-requires-clause-mine c = rw (c.loop-i.invariant.same_area, ← c.rect.ensures.area) c.in-Some.ensures.within.0
+same_length : (c : goal.After-self-1) → length c.paste_into.new.bytes ≡ length c.self.inside.bytes.items
+same_length c = c.paste_into.auto.bytes ∙ ap length c.deref_mut.ensures.value
 
-pub paste_row-requires-clause-its : goal.paste_row-requires-clause-its
-paste_row-requires-clause-its c = rw (← c.rect-2.ensures.area) c.in-Some.ensures.within.1
+-- the raster that it then is
+seen :
+    (c : goal.After-self-1)
+    → bitmap_of c.self.inside.rect (take c.self.inside.bytes.len (c.paste_into.new.bytes ++ drop (length c.paste_into.new.bytes) c.self.inside.bytes.items))
+    ≡ bitmap c.self.inside.rect (pixels c.paste_into.new.bytes)
+seen c =
+    let held = backed _ _ _ c.self.view_is c.requires in
+    let some : 0 < length c.paste_into.new.bytes = omega (arith, held.some, same_length c) in
+    ap (bitmap_of c.self.inside.rect) (stored c) ∙ bitmap-backed c.self.inside.rect c.paste_into.new.bytes some
 
-pub loop-i-init : goal.loop-i-init
-loop-i-init c = pasted_none c.in-Some.common _ _
-
-pub loop-i-preserved : goal.loop-i-preserved
-loop-i-preserved c =
-    let i = to_z_pos w32 c.loop-i.i (omega arith) in
-    let low = to_z-of_z w32 c.y.result (record { sfits = omega (arith, ints) }) in
-    let y = to_z-of_z w32 (c.y.result +ℤ pos c.loop-i.i) (fits_signed_from_abs w32 _ (omega (arith, ints))) in
-    pasted_more c.in-Some.common c.loop-i.i _ _ _ _ (omega arith)
-    (rw (← c.rect.ensures.area) c.in-Some.ensures.within.0)
-    (rw (← c.rect-2.ensures.area) c.in-Some.ensures.within.1)
-    (rw (low, i, y, c.y.ensures.value) at c.paste_row.ensures.long)
-    c.loop-i.invariant
-    (rw (low, i, y, c.y.ensures.value) at c.paste_row.ensures.row)
+pub invariant_of-self : goal.invariant_of-self
+invariant_of-self c =
+    let held = backed _ _ _ c.self.view_is c.requires in
+    rw (stored c)
+    (written c.self.inside.rect c.self.inside.bytes.items c.paste_into.new.bytes c.self.invariant held.some (same_length c)
+    (c.paste_into.ensures.premultiplied (rw c.deref_mut.ensures.value c.self.invariant.premultiplied)))
 
 pub returns : goal.returns
 returns c =
-    let all : c.loop-i.i ≡ c.in-Some.common.h = omega arith in
-    rw (← c.raster-from.ensures)
-    (pasted_all c.in-Some.common _ _ _ (rw (c.rect.ensures.area, c.rect-2.ensures.area) at c.in-Some.ensures.common) (rw all at c.loop-i.invariant))
-
-pub returns-in_default : goal.returns-in_default
-returns-in_default c =
-    rw (← c.raster-from.ensures) (pasted_apart _ _ (rw (c.rect.ensures.area, c.rect-2.ensures.area) at c.in_default.ensures.none))
+    let held = backed _ _ _ c.self.view_is c.requires in
+    let old = bitmap c.self.inside.rect (pixels c.self.inside.bytes.items) in
+    rw (← held.seen)
+    (subst (λ (new : Bitmap). Pastes old new c.args.t.now.raster) (sym (seen c))
+    (rw (c.deref_mut.ensures.value) at c.paste_into.ensures.points))

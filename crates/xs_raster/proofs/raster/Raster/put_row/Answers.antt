@@ -1,47 +1,52 @@
-use Rattle.std.proofs.Common.{◌≡◌, ℕ, ◌/◌, List, length, take, drop, ◌++◌, ap, sym, ◌∙◌, w32, arith, refl}
+use Rattle.std.proofs.Common.{◌≡◌, ◌<◌, length, take, drop, ◌++◌, ap, sym, ◌∙◌, subst, w32, arith}
 use Rattle.std.proofs.lemmas.Int.{to_z-of_z}
 use Rattle.std.proofs.lemmas.List.{take_at}
-use Rattle.std.proofs.lemmas.Simd.{Each1-put_chunk}
-use Rattle.xs_pixel.specs.Channels.{IsPixel}
 use Rattle.xs_pixel.specs.PixelRows.{pixels}
-use Rattle.xs_raster.specs.Bitmap.{bitmap}
-use Rattle.xs_raster.proofs.Points.{place_fits, sets_row}
+use Rattle.xs_raster.specs.Bitmap.{Bitmap, bitmap, bitmap_of}
+use Rattle.xs_raster.specs.Changes.{SetsRow}
+use Rattle.xs_raster.proofs.Blank.{backed, bitmap-backed, written}
 use Rattle.xs_raster.proofs.raster.Raster.put_row.Goals as goal
-
-pub put_pixels-requires-clause-room : goal.put_pixels-requires-clause-room
-put_pixels-requires-clause-room c =
-    let x = to_z-of_z w32 c.args.x c.ranges.x in
-    let y = to_z-of_z w32 c.args.y c.ranges.y in
-    let place = rw (x, y, ← c.self.view_is) at c.place-at.ensures.value in
-    let fits = rw (← c.self.view_is) at (place_fits c.args.self.now.area c.args.x c.args.y (length c.args.bytes.now / 4) c.requires.across c.requires.up) in
-    rw (c.deref_mut.ensures.value, c.self.invariant.whole) (omega (arith, place, fits))
 
 -- the bytes that the raster then holds
 stored :
     (c : goal.After-self-1)
-    → take c.self.inside.bytes.len (c.put_pixels.new.bytes ++ drop (length c.put_pixels.new.bytes) c.self.inside.bytes.items) ≡ c.put_pixels.new.bytes
-stored c = take_at _ _ _ (c.put_pixels.auto.bytes ∙ c.deref_mut.ensures.len)
+    → take c.self.inside.bytes.len (c.put_line.new.bytes ++ drop (length c.put_line.new.bytes) c.self.inside.bytes.items) ≡ c.put_line.new.bytes
+stored c = take_at _ _ _ (c.put_line.auto.bytes ∙ c.deref_mut.ensures.len)
+
+same_length : (c : goal.After-self-1) → length c.put_line.new.bytes ≡ length c.self.inside.bytes.items
+same_length c = c.put_line.auto.bytes ∙ ap length c.deref_mut.ensures.value
+
+-- the raster that it then is
+seen :
+    (c : goal.After-self-1)
+    → bitmap_of c.self.inside.rect (take c.self.inside.bytes.len (c.put_line.new.bytes ++ drop (length c.put_line.new.bytes) c.self.inside.bytes.items))
+    ≡ bitmap c.self.inside.rect (pixels c.put_line.new.bytes)
+seen c =
+    let held = backed _ _ _ c.self.view_is c.requires.room in
+    let some : 0 < length c.put_line.new.bytes = omega (arith, held.some, same_length c) in
+    ap (bitmap_of c.self.inside.rect) (stored c) ∙ bitmap-backed c.self.inside.rect c.put_line.new.bytes some
 
 pub invariant_of-self : goal.invariant_of-self
-invariant_of-self c = rw (stored c) (record {
-  whole = c.put_pixels.auto.bytes ∙ ap length c.deref_mut.ensures.value ∙ c.self.invariant.whole;
-  premultiplied = rw (c.put_pixels.ensures, c.deref_mut.ensures.value) (Each1-put_chunk IsPixel _ _ _ c.self.invariant.premultiplied c.requires.premultiplied);
-})
+invariant_of-self c =
+    let held = backed _ _ _ c.self.view_is c.requires.room in
+    rw (stored c)
+    (written c.self.inside.rect c.self.inside.bytes.items c.put_line.new.bytes c.self.invariant held.some (same_length c)
+    (c.put_line.ensures.premultiplied (rw c.deref_mut.ensures.value c.self.invariant.premultiplied) c.requires.premultiplied))
 
 pub returns-clause-list : goal.returns-clause-list
 returns-clause-list c =
+    let held = backed _ _ _ c.self.view_is c.requires.room in
     let x = to_z-of_z w32 c.args.x c.ranges.x in
     let y = to_z-of_z w32 c.args.y c.ranges.y in
-    let place = rw (x, y, ← c.self.view_is) at c.place-at.ensures.value in
-    rw (← c.self.view_is)
-    (ap (λ (bytes : List ℕ). bitmap c.self.inside.rect (pixels bytes)) (stored c)
-    ∙ ap (bitmap c.self.inside.rect) (rw (c.put_pixels.ensures, c.deref_mut.ensures.value, place) refl))
+    rw (← held.seen)
+    (seen c ∙ ap (bitmap c.self.inside.rect) (rw (x, y, c.deref_mut.ensures.value) at c.put_line.ensures.list))
 
 pub returns-clause-points : goal.returns-clause-points
 returns-clause-points c =
-    let long : length (pixels c.args.bytes.now) ≡ length c.args.bytes.now / 4 =
-    c.rows_of_bytes_are_rows_of_pixels.ensures.count _ c.args.bytes.now (omega arith)
-    in
-    rw (returns-clause-list c)
-    (sets_row c.args.self.now c.args.x c.args.y (pixels c.args.bytes.now) (rw long c.requires.across) c.requires.up
-    (rw (← c.self.view_is) (sym (c.rows_of_bytes_are_rows_of_pixels.ensures.count _ _ c.self.invariant.whole))))
+    let held = backed _ _ _ c.self.view_is c.requires.room in
+    let x = to_z-of_z w32 c.args.x c.ranges.x in
+    let y = to_z-of_z w32 c.args.y c.ranges.y in
+    let old = bitmap c.self.inside.rect (pixels c.self.inside.bytes.items) in
+    rw (← held.seen)
+    (subst (λ (new : Bitmap). SetsRow old new c.args.x c.args.y (pixels c.args.bytes.now)) (sym (seen c))
+    (rw (x, y, c.deref_mut.ensures.value) at c.put_line.ensures.points))

@@ -1,29 +1,25 @@
-use Rattle.std.proofs.Common.{◌≡◌, ◌+◌, length, List, [], ◌∷◌, ◌++◌, Contains, arith, rules, ap, ◌∙◌, subst}
-use Rattle.std.proofs.lemmas.List.{length_push}
-use Rattle.xs_pixel.specs.Channels.{Channels}
-use Rattle.xs_tint.specs.Tints.{tint_of}
-use Rattle.xs_tint.proofs.SameTints.{tints-differ_more, tint-last}
+use Rattle.std.proofs.Common.{arith}
+use Rattle.xs_tint.proofs.MoreTints.{OneMore, one_more}
 use Rattle.xs_tint.proofs.tints.Tints.add.Goals as goal
 
-pub invariant_of-self-2 : goal.invariant_of-self-2
-invariant_of-self-2 c =
-    let old = c.self.inside.palettes.items in
-    let added : c.push.new.self.items ≡ old ++ c.args.p ∷ [] = search rules in
-    let longer : length c.push.new.self.items ≡ length old + 1 = ap length added ∙ length_push old c.args.p in (
-      tints-differ_more old c.push.new.self.items c.args.p added c.self.invariant.0
-          (λ at. c.requires (subst (λ (xs : List (List Channels)). Contains xs (tint_of c.args.p)) c.self.view_is at)),
-      omega (arith, longer),
-    )
+pub invariant_of-self : goal.invariant_of-self
+invariant_of-self c =
+    let more : OneMore c.args.self.now c.insert.new.self.entries c.args.p c.len-number.result =
+    one_more c.args.self.now c.self.inside.palettes.entries c.insert.new.self.entries c.args.tint c.args.p c.len-number.result c.self.view_is
+    c.self.invariant.0 c.self.invariant.1 c.requires.own c.requires.fresh c.len-number.ensures.len c.in-Ok.ensures.entries in
+    (more.under, more.differ, omega arith)
 
-pub returns-clause-differ : goal.returns-clause-differ
-returns-clause-differ c =
-    let old = c.self.inside.palettes.items in
-    let added : c.push.new.self.items ≡ old ++ c.args.p ∷ [] = search rules in
-    tints-differ_more old c.push.new.self.items c.args.p added c.self.invariant.0
-    (λ at. c.requires (subst (λ (xs : List (List Channels)). Contains xs (tint_of c.args.p)) c.self.view_is at))
+pub returns-in-Ok-clause-number : goal.returns-in-Ok-clause-number
+returns-in-Ok-clause-number c =
+    (one_more c.args.self.now c.self.inside.palettes.entries c.insert.new.self.entries c.args.tint c.args.p c.len-number.result c.self.view_is
+    c.self.invariant.0 c.self.invariant.1 c.requires.own c.requires.fresh c.len-number.ensures.len c.in-Ok.ensures.entries).number
 
-pub returns-clause-number : goal.returns-clause-number
-returns-clause-number c =
-    let old = c.self.inside.palettes.items in
-    let added : c.push.new.self.items ≡ old ++ c.args.p ∷ [] = search rules in
-    tint-last old c.push.new.self.items c.args.p c.len-number.result added (omega arith)
+pub returns-in-Ok-clause-added : goal.returns-in-Ok-clause-added
+returns-in-Ok-clause-added c =
+    (one_more c.args.self.now c.self.inside.palettes.entries c.insert.new.self.entries c.args.tint c.args.p c.len-number.result c.self.view_is
+    c.self.invariant.0 c.self.invariant.1 c.requires.own c.requires.fresh c.len-number.ensures.len c.in-Ok.ensures.entries).more
+
+pub returns-in-Ok-clause-differ : goal.returns-in-Ok-clause-differ
+returns-in-Ok-clause-differ c =
+    (one_more c.args.self.now c.self.inside.palettes.entries c.insert.new.self.entries c.args.tint c.args.p c.len-number.result c.self.view_is
+    c.self.invariant.0 c.self.invariant.1 c.requires.own c.requires.fresh c.len-number.ensures.len c.in-Ok.ensures.entries).differ

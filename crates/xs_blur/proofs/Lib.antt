@@ -1,0 +1,5 @@
+mod Blurring
+mod TotalLemmas
+mod Dividing
+mod Lines
+mod Squares

@@ -1,0 +1,2 @@
+pub mod Blurs
+pub mod Totals

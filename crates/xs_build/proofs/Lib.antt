@@ -1,0 +1,12 @@
+pub mod StackLemmas
+pub mod Remembered
+pub mod OneTint
+pub mod Growing
+pub mod Failing
+pub mod PutOver
+pub mod Giving
+pub mod Rooms
+pub mod Stepping
+pub mod Joining
+pub mod Leaves
+pub mod Roots

@@ -1,0 +1,10 @@
+pub mod Same
+pub mod Aliases
+pub mod Shown
+pub mod Limits
+pub mod Blocks
+pub mod Renamed
+pub mod Images
+pub mod Samples
+pub mod Tints
+pub mod Fit

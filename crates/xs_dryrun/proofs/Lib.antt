@@ -1,0 +1,15 @@
+pub mod Numbering
+pub mod RowLimits
+pub mod NextEntry
+pub mod TileLemmas
+pub mod TileRoots
+pub mod RowTiles
+pub mod Planning
+pub mod RowTints
+pub mod AddRow
+pub mod Wholes
+pub mod Frames
+pub mod TryRow
+pub mod Existing
+pub mod NextRow
+pub mod MoreRows

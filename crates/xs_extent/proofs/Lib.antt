@@ -1,0 +1,2 @@
+pub mod SpotExtents
+pub mod Remembered

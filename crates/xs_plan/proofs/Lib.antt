@@ -1,0 +1,9 @@
+pub mod ReadLemmas
+pub mod RowLemmas
+pub mod DraftLemmas
+pub mod NeedLemmas
+pub mod PlanLemmas
+pub mod EdgeLemmas
+pub mod FirstRowLemmas
+pub mod HeldLemmas
+pub mod LiveLemmas

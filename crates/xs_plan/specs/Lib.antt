@@ -1,0 +1,9 @@
+pub mod Record
+pub mod Reads
+pub mod Sections
+pub mod Needed
+pub mod Values
+pub mod Valid
+pub mod Draft
+pub mod Kept
+pub mod Samples

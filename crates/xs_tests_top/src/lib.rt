@@ -1,0 +1,17 @@
+//! The tests of the libraries that stand on checked scenes, up to the whole run. They stand apart from those of the
+//! libraries below, so that these need not wait for the longest chain of crates. Without its tests this crate is
+//! empty.
+#![tactic(auto)]
+
+#[cfg(test)]
+mod direct;
+#[cfg(test)]
+mod index;
+#[cfg(test)]
+mod needs;
+#[cfg(test)]
+mod scenes;
+#[cfg(test)]
+mod schematic;
+#[cfg(test)]
+mod top;

@@ -1,6 +1,0 @@
-use Rattle.std.proofs.Common.{◌≡◌, ℕ, ◌<◌}
-use Rattle.xs_palette.specs.Styles.{style_of}
-use Rattle.xs_tint.proofs.tints.is_same.Given as goal
-
-abbrev pub invariant-loop-id : goal.invariant-loop-id
-invariant-loop-id l = (k : ℕ) → k < l.id → style_of l.a k ≡ style_of l.b k

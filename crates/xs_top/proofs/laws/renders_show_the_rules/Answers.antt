@@ -1,0 +1,24 @@
+use Rattle.xs_top.specs.Levels.{pictures_of}
+use Rattle.xs_top.proofs.Drawn.{picture_is}
+use Rattle.xs_top.proofs.Sections.{pictures_hold}
+use Rattle.xs_top.proofs.laws.renders_show_the_rules.Goals as goal
+
+pub returns : goal.returns
+returns c = record {
+  rules = λ files name base from to before now rendered.
+      let s = rendered.scene in
+      let pictures = pictures_of files s in
+      let faultless = c.scenes_without_a_fault_are_good.ensures in
+      let tables = c.values_follow_the_tables.ensures in
+      let ends = faultless.ends s rendered.faultless in
+      record {
+        good = faultless.good s rendered.faultless (c.texts_say_scenes_in_range.ensures rendered.says.bytes s rendered.says.text);
+        pixels = pictures_hold c.files_without_fault_hold_drawings.ensures c.drawings_hold_pixels.ensures files s;
+        columns = tables.columns s pictures;
+        nodes = tables.nodes s pictures ends;
+        rows = tables.rows s pictures ends;
+        count = c.frames_go_row_by_row.ensures.count s pictures;
+        order = c.frames_go_row_by_row.ensures.order s pictures;
+      };
+  drawn = picture_is;
+}
