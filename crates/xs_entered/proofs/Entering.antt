@@ -12,8 +12,8 @@ use Rattle.xs_demand.specs.Blocks.{Spread, spread, Puts}
 use Rattle.xs_demand.specs.Shown.{tint_in, with_tint}
 use Rattle.xs_demand.proofs.SameLemmas.{Decides-same_pixels_in}
 use Rattle.xs_demand.proofs.PlaceLemmas.{same_place, contained, place_of, place-append}
-use Rattle.xs_entered.specs.declared.place.Key.{Key}
-use Rattle.xs_entered.specs.declared.place.Key.TheVariants as key
+use Rattle.xs_alias.specs.declared.key.Key.{Key}
+use Rattle.xs_alias.specs.declared.key.Key.TheVariants as key
 use Rattle.xs_entered.specs.declared.place.Place.{Place}
 use Rattle.xs_entered.specs.Entered.{tints_entered}
 use Rattle.xs_entered.specs.Places.{made, shows, shown, IsFounded, inputs_held, IsHeld, IsPut}

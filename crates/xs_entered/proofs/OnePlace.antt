@@ -6,8 +6,8 @@ use Rattle.xs_pixel.specs.Points.{Point, point}
 use Rattle.xs_meaning.specs.Expressions.{Clear}
 use Rattle.xs_demand.specs.Blocks.{Spread, spread}
 use Rattle.xs_demand.proofs.PlaceLemmas.{same_place, contained}
-use Rattle.xs_entered.specs.declared.place.Key.{Key}
-use Rattle.xs_entered.specs.declared.place.Key.TheVariants as key
+use Rattle.xs_alias.specs.declared.key.Key.{Key}
+use Rattle.xs_alias.specs.declared.key.Key.TheVariants as key
 use Rattle.xs_entered.specs.declared.place.Place.{Place}
 use Rattle.xs_entered.specs.Entered.{spread_at}
 use Rattle.xs_entered.specs.Places.{made, shows, IsInput, IsFounded, Stands}

@@ -12,8 +12,8 @@ use Rattle.xs_demand.specs.Blocks.{Spread, spread, same_spread, put, inputs_unde
 use Rattle.xs_demand.specs.Shown.{tint_in, with_tint, tints_in}
 use Rattle.xs_demand.proofs.SameLemmas.{Decides-same_spread_in}
 use Rattle.xs_demand.proofs.PlaceLemmas.{before_or_last, contained}
-use Rattle.xs_entered.specs.declared.place.Key.{Key}
-use Rattle.xs_entered.specs.declared.place.Key.TheVariants as key
+use Rattle.xs_alias.specs.declared.key.Key.{Key}
+use Rattle.xs_alias.specs.declared.key.Key.TheVariants as key
 use Rattle.xs_entered.specs.declared.place.Place.{Place}
 use Rattle.xs_entered.specs.Entered.{tints_entered}
 use Rattle.xs_entered.specs.Places.{made, shows, shown, IsFounded, Stands, inputs_by, inputs_held, IsHeld, IsPut}

@@ -6,8 +6,8 @@ use Rattle.xs_meaning.specs.Expressions.{Expr, Clear}
 use Rattle.xs_demand.specs.Blocks.{Spread, spread, inputs_under, IsClosed}
 use Rattle.xs_demand.specs.Shown.{ShowsJob}
 use Rattle.xs_demand.proofs.PlaceLemmas.{contained, place_of, none_in_nil, head_or_tail, only}
-use Rattle.xs_entered.specs.declared.place.Key.{Key}
-use Rattle.xs_entered.specs.declared.place.Key.TheVariants as key
+use Rattle.xs_alias.specs.declared.key.Key.{Key}
+use Rattle.xs_alias.specs.declared.key.Key.TheVariants as key
 use Rattle.xs_entered.specs.declared.place.Place.{Place}
 use Rattle.xs_entered.specs.Entered.{spread_at, tints_entered, IsInputAt}
 use Rattle.xs_entered.specs.Places.{made, shows, shown, IsInput, IsFounded, Stands, inputs_by, job_by, IsHeld}

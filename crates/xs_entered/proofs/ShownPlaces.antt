@@ -8,8 +8,8 @@ use Rattle.xs_pixel.specs.Points.{point}
 use Rattle.xs_meaning.specs.Expressions.{Tinted, Pair, Blur}
 use Rattle.xs_demand.specs.Blocks.{Spread, spread}
 use Rattle.xs_demand.proofs.PlaceLemmas.{place-append}
-use Rattle.xs_entered.specs.declared.place.Key.{Key}
-use Rattle.xs_entered.specs.declared.place.Key.TheVariants as key
+use Rattle.xs_alias.specs.declared.key.Key.{Key}
+use Rattle.xs_alias.specs.declared.key.Key.TheVariants as key
 use Rattle.xs_entered.specs.declared.place.Place.{Place}
 use Rattle.xs_entered.specs.Entered.{spread_at}
 use Rattle.xs_entered.specs.Places.{made, shows, shown_after, shown, IsInput, IsFounded, Stands, inputs_by, inputs_held}

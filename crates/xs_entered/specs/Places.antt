@@ -6,8 +6,8 @@ use Rattle.xs_meaning.specs.Expressions.{Expr, Clear, Leaf, Tinted, Card, Pair, 
 use Rattle.xs_plan.specs.declared.job.Job.{Job}
 use Rattle.xs_plan.specs.declared.job.Job.TheVariants as job
 use Rattle.xs_demand.specs.Blocks.{Spread, spread, inputs_entered}
-use Rattle.xs_entered.specs.declared.place.Key.{Key}
-use Rattle.xs_entered.specs.declared.place.Key.TheVariants as key
+use Rattle.xs_alias.specs.declared.key.Key.{Key}
+use Rattle.xs_alias.specs.declared.key.Key.TheVariants as key
 use Rattle.xs_entered.specs.declared.place.Place.{Place}
 use Rattle.xs_entered.specs.Entered.{spread_at, tints_entered}
 

@@ -7,10 +7,11 @@ ghost use Rattle.xs_demand.specs.Shown.{ShowsJob};
 ghost use Rattle.xs_entered.specs.Entered.{spread_at, tints_entered, IsInputAt};
 ghost use Rattle.xs_entered.specs.Places.{made, IsFounded};
 
-use crate::place::{Key, Place, input_of, job_of, put_place};
+use crate::place::{Place, input_of, job_of, put_place};
 use indexmap::IndexSet;
 use std::alloc::Global;
 use std::marker::Model;
+use xs_alias::Key;
 use xs_base::Memory;
 use xs_palette::Palette;
 use xs_pixel::{Op, Pixel};

@@ -3,42 +3,9 @@ ghost use Rattle.indexmap.specs.IndexSet.{spare};
 ghost use Rattle.xs_entered.specs.Places.{IsPut, inputs_by, inputs_held, job_by};
 
 use indexmap::IndexSet;
+use xs_alias::Key;
 use xs_base::Memory;
-use xs_pixel::{Op, Pixel};
 use xs_plan::Job;
-
-/// An expression whose inputs are numbers of what was entered before.
-#[derive(Clone, Copy, Debug, PartialEq, Eq, Hash)]
-pub(crate) enum Key {
-    /// Nothing.
-    Clear,
-    /// A drawing moved right by `dx` and up by `dy`, as its palette is written.
-    Leaf {
-        drawing: u32,
-        dx: i32,
-        dy: i32,
-    },
-    /// The same under the tint with a number.
-    Tinted {
-        drawing: u32,
-        dx: i32,
-        dy: i32,
-        tint: u32,
-    },
-    /// One pixel everywhere.
-    Card(Pixel),
-    /// `op` of two inputs, `a` the first.
-    Pair {
-        op: Op,
-        a: u32,
-        b: u32,
-    },
-    /// The input blurred by a radius.
-    Blur {
-        a: u32,
-        radius: u32,
-    },
-}
 
 /// How an entered expression is held: a key whose inputs are numbers of what was entered before, and by how
 /// much its tiles are grown.

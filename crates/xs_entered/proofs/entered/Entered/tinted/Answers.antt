@@ -5,7 +5,7 @@ use Rattle.xs_meaning.specs.Expressions.{Tinted}
 use Rattle.xs_tint.specs.Tints.{tint_of}
 use Rattle.xs_demand.specs.Blocks.{spread}
 use Rattle.xs_entered.specs.Places.{IsPut}
-use Rattle.xs_entered.specs.declared.place.Key.TheVariants as key
+use Rattle.xs_alias.specs.declared.key.Key.TheVariants as key
 use Rattle.xs_entered.specs.declared.place.Place.{Place}
 use Rattle.xs_entered.proofs.ShownPlaces.{length-shown, inputs_few}
 use Rattle.xs_entered.proofs.Entering.{Gives, place, tinted}
