@@ -23,7 +23,10 @@ pub use drawing_laws::{
     drawings_are_asked_for_in_their_section, the_first_refused_drawing_is_told,
 };
 pub use frame_laws::{frames_have_names_of_their_own, sections_have_eight_rows};
-pub use laws::{a_good_scene_is_rendered, files_have_their_limits, only_a_good_scene_is_rendered};
+pub use laws::{
+    a_good_scene_is_rendered, files_have_their_limits, only_a_good_scene_is_rendered,
+    renders_show_the_rules,
+};
 pub use scene_laws::scenes_without_a_file_are_told;
 pub use status::{Status, status_number};
 pub use texts::fault_text;
