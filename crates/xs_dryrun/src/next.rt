@@ -3,7 +3,7 @@
 ghost use Rattle.std.specs.Prelude.{◌≡◌, ◌<◌, ◌≤◌, ◌+◌, ◌*◌, ◌^◌, ◌++◌, ℕ, List, [], All, IfOk, OnOk, length};
 ghost use Rattle.xs_check.specs.Good.{files_of};
 ghost use Rattle.xs_meaning.specs.Expressions.{Expr, root_of};
-ghost use Rattle.xs_plan.specs.declared.limits.TheConstants.{MOST_ALIASES as MOST};
+ghost use Rattle.xs_plan.specs.declared.limits.TheConstants.{MOST_ALIASES as MOST, MOST_ROWS, MOST_TILES};
 ghost use Rattle.xs_demand.specs.Renamed.{renamed};
 ghost use Rattle.xs_build.specs.States.{named};
 ghost use Rattle.xs_dryrun.specs.declared.limits.PlanFault.TheVariants.{Limit};
@@ -37,9 +37,9 @@ pub(crate) struct Underway {
 pub(crate) fn begin(alloc: Global, tiles: Vec<Rect>, rows: u32) -> Result<Underway, Memory>
     requires frame { IsFrame tiles.items }
     requires some_tiles { 1 ≤ length tiles.items }
-    requires few_tiles { length tiles.items ≤ 4096 }
+    requires few_tiles { length tiles.items ≤ MOST_TILES }
     requires some_rows { 1 ≤ rows }
-    requires few_rows { rows ≤ 4096 }
+    requires few_rows { rows ≤ MOST_ROWS }
     ensures tiles { IfOk result (λ u. u.builder.plan.tiles ≡ tiles.items) }
     ensures room { IfOk result (λ u. u.builder.rows ≡ rows) }
     ensures many { IfOk result (λ u. u.rows.tiles ≡ length tiles.items) }
@@ -79,8 +79,8 @@ pub(crate) fn add_next_row(
         × MayFollow drawings roots names.now place way.old.build.entered way.old.rows way.old.builder }
     requires names { length names.now ≡ length (files_of s.now.levels) }
     requires tiles { way.old.builder.plan.tiles ≡ tiles.now }
-    requires few { length tiles.now ≤ 4096 }
-    requires few_rows { place ≤ 4096 }
+    requires few { length tiles.now ≤ MOST_TILES }
+    requires few_rows { place ≤ MOST_ROWS }
     requires rows { way.old.rows.tiles ≡ length tiles.now }
     ensures rows { OnOk result (way.new.rows.tiles ≡ way.old.rows.tiles) }
     ensures tiles { OnOk result (way.new.builder.plan.tiles ≡ way.old.builder.plan.tiles) }
@@ -138,8 +138,8 @@ pub(crate) fn add_rows(
     requires next { (drawings : ℕ) × (roots : List Expr) × MayAdd drawings roots names.now place count way.old }
     requires names { length names.now ≡ length (files_of s.now.levels) }
     requires tiles { way.old.builder.plan.tiles ≡ tiles.now }
-    requires few { length tiles.now ≤ 4096 }
-    requires few_rows { place + count ≤ 4096 }
+    requires few { length tiles.now ≤ MOST_TILES }
+    requires few_rows { place + count ≤ MOST_ROWS }
     requires last { from + count < 2 ^ 32 }
     requires rows { way.old.rows.tiles ≡ length tiles.now }
     ensures tries { TriesRows s.now names.now from place count way.old way.new result }

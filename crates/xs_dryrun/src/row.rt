@@ -2,6 +2,7 @@
 
 ghost use Rattle.std.specs.Prelude.{◌≡◌, ◌<◌, ◌≤◌, ◌++◌, ◌∷◌, ℕ, List, [], OnOk, length, take};
 ghost use Rattle.xs_meaning.specs.Expressions.{Expr};
+ghost use Rattle.xs_plan.specs.declared.limits.TheConstants.{MOST_ROWS, MOST_TILES};
 ghost use Rattle.xs_demand.specs.Blocks.{Spread, inputs_entered};
 ghost use Rattle.xs_demand.specs.Shown.{tints_shown};
 ghost use Rattle.xs_entered.specs.Entered.{tints_entered};
@@ -32,7 +33,7 @@ pub(crate) fn fill_row(
     requires more { before ≤ length entered.now }
     requires root { root < length entered.now }
     requires tiles { builder.old.plan.tiles ≡ tiles.now }
-    requires few { length tiles.now ≤ 4096 }
+    requires few { length tiles.now ≤ MOST_TILES }
     ensures { OnOk result (FillsRowTo builder.old entered.now rows.now before root (length tiles.now) builder.new) }
 {
     for t in 0..tiles.len() {
@@ -56,7 +57,7 @@ pub(crate) fn add_row(
         × Planned drawings roots was rows.old builder.old × IsEntered drawings roots e was entered.now root builder.old }
     requires tints { tints ≡ length builder.old.plan.tints }
     requires tiles { builder.old.plan.tiles ≡ tiles.now }
-    requires few { length tiles.now ≤ 4096 }
+    requires few { length tiles.now ≤ MOST_TILES }
     requires rows { rows.old.tiles ≡ length tiles.now }
     requires root { root < length entered.now }
     ensures rows { OnOk result (rows.new.tiles ≡ rows.old.tiles) }
@@ -89,8 +90,8 @@ pub(crate) fn try_row(
         × Planned drawings roots old rows.old builder.old × IsNextRow drawings roots e old entered.now root row was builder.old }
     requires tints { tints ≡ length builder.old.plan.tints }
     requires tiles { builder.old.plan.tiles ≡ tiles.now }
-    requires few { length tiles.now ≤ 4096 }
-    requires few_rows { row ≤ 4096 }
+    requires few { length tiles.now ≤ MOST_TILES }
+    requires few_rows { row ≤ MOST_ROWS }
     requires rows { rows.old.tiles ≡ length tiles.now }
     requires root { root < length entered.now }
     requires spreads { was.spreads ≤ length entered.now }

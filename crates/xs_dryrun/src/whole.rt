@@ -5,6 +5,7 @@ ghost use Rattle.xs_base.specs.declared.limits.TheConstants.{LONGEST_CAMERA_SIDE
 ghost use Rattle.xs_rect.specs.Tiles.{tile_areas};
 ghost use Rattle.xs_meaning.specs.Expressions.{Expr};
 ghost use Rattle.xs_plan.specs.Draft.{AreLast, empty_draft};
+ghost use Rattle.xs_plan.specs.declared.limits.TheConstants.{MOST_ROWS, MOST_TILES};
 ghost use Rattle.xs_demand.specs.Blocks.{Spread};
 ghost use Rattle.xs_demand.specs.Shown.{ShowsRoots};
 ghost use Rattle.xs_dryrun.specs.declared.rows.Rows.{Rows as RowNumbers};
@@ -21,9 +22,9 @@ use xs_rect::{Rect, tiles};
 pub(crate) fn start(alloc: Global, tiles: Vec<Rect>, rows: u32) -> Result<(Builder, Rows), Memory>
     requires frame { IsFrame tiles.items }
     requires some_tiles { 1 ≤ length tiles.items }
-    requires few_tiles { length tiles.items ≤ 4096 }
+    requires few_tiles { length tiles.items ≤ MOST_TILES }
     requires some_rows { 1 ≤ rows }
-    requires few_rows { rows ≤ 4096 }
+    requires few_rows { rows ≤ MOST_ROWS }
     ensures draft { IfOk result (λ p. p.0 ≡ empty_draft tiles.items rows) }
     ensures many { IfOk result (λ p. p.1.tiles ≡ length tiles.items) }
     ensures planned { IfOk result (λ p. (drawings : ℕ) → Planned drawings [] [] p.1 p.0) }
@@ -53,7 +54,7 @@ pub(crate) fn frame_tiles(alloc: Global, w: u32, h: u32) -> Result<Vec<Rect>, Me
     ensures each { IfOk result (λ t. t.items ≡ tile_areas w h) }
     ensures frame { IfOk result (λ t. IsFrame t.items) }
     ensures some { IfOk result (λ t. 1 ≤ length t.items) }
-    ensures few { IfOk result (λ t. length t.items ≤ 4096) }
+    ensures few { IfOk result (λ t. length t.items ≤ MOST_TILES) }
 {
     Ok(tiles(alloc, w, h)?)
 }
