@@ -1,5 +1,5 @@
 -- The value of an alias at a point
-use Rattle.std.specs.Prelude.{ℕ, Option, Some, None, List, [], ◌∷◌, ◌++◌, map, slice_index_or}
+use Rattle.std.specs.Prelude.{◌≡◌, ℕ, ℤ, Option, Some, None, List, [], ◌∷◌, ◌++◌, map, slice_index_or}
 use Rattle.xs_cm32.specs.Word.{colour_under}
 use Rattle.xs_palette.specs.Styles.{style_of}
 use Rattle.xs_pixel.specs.Channels.{Channels, clear}
@@ -7,9 +7,10 @@ use Rattle.xs_pixel.specs.Images.{Image, blurred}
 use Rattle.xs_pixel.specs.Operations.{apply_of}
 use Rattle.xs_pixel.specs.Picture.{Picture, Pictures, pixel_at, at_point, words_in}
 use Rattle.xs_pixel.specs.Points.{point, minus}
+use Rattle.xs_rect.specs.Area.{Area, Holds}
 use Rattle.xs_plan.specs.declared.job.Job.{Job}
 use Rattle.xs_plan.specs.declared.job.Job.TheVariants as job
-use Rattle.xs_plan.specs.Record.{Entry, PlanRecord}
+use Rattle.xs_plan.specs.Record.{Entry, PlanRecord, entry_at}
 
 -- the coloured pixel of a picture at a point: clear outside its box and without a picture
 unfoldable pub plain_pixel : Option Picture → Image
@@ -57,3 +58,13 @@ images_after pictures tints images (e ∷ entries) =
 -- the value of an alias at a point
 unfoldable pub value_in : Pictures → PlanRecord → ℕ → Image
 value_in pictures p k = image_at (images_after pictures p.tints [] p.entries) k
+
+-- ---- what a tile holds
+
+-- the number and the rectangle of a tile are those of an alias; where the pictures are told, each of its pixels is
+-- that of the alias' value
+pub record HoldsValue (told : Option Pictures) (p : PlanRecord) (k : ℕ) (alias : ℕ) (area : Area) (image : Image) : Type 0 where
+  pub alias_is : alias ≡ k
+  pub area_is : area ≡ (entry_at p.entries k).rect
+  pub pixels_are : (pictures : Pictures) → told ≡ Some pictures
+      → (x y : ℤ) → Holds area x y → image (point x y) ≡ value_in pictures p k (point x y)
