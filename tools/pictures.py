@@ -3,11 +3,16 @@
 A picture here is its width, its height and its rows from the top down. A row is a flat list of
 red, green, blue, alpha, red, .. with straight colours.
 """
+import itertools
 import struct
 import zlib
 
+import whole_file
+
 SIGNATURE = b"\x89PNG\r\n\x1a\n"
 SAMPLES = {0: 1, 2: 3, 3: 1, 4: 2, 6: 4}
+# The depths in bits that a colour type may have.
+DEPTHS = {0: (1, 2, 4, 8, 16), 2: (8, 16), 3: (1, 2, 4, 8), 4: (8, 16), 6: (8, 16)}
 
 
 class Picture:
@@ -32,9 +37,12 @@ def chunks(data):
     if data[:8] != SIGNATURE:
         raise ValueError("this is no PNG file")
     at = 8
-    while at + 8 <= len(data):
+    while at + 12 <= len(data):
         length = struct.unpack(">I", data[at:at + 4])[0]
-        yield data[at + 4:at + 8], data[at + 8:at + 8 + length]
+        name, body = data[at + 4:at + 8], data[at + 8:at + 8 + length]
+        if data[at + 8 + length:at + 12 + length] != struct.pack(">I", zlib.crc32(name + body)):
+            raise ValueError("this PNG file is damaged")
+        yield name, body
         at += 12 + length
 
 
@@ -47,24 +55,31 @@ def nearest(left, above, corner):
     return above if by_above <= by_corner else corner
 
 
+def undone_left(line, step):
+    """The bytes of a line that holds the differences from the left."""
+    out = bytearray(len(line))
+    for channel in range(step):
+        out[channel::step] = bytes(total & 255 for total in itertools.accumulate(line[channel::step]))
+    return out
+
+
 def unfiltered(kind, line, above, step):
     """The bytes of a line, which the file holds as differences from its neighbours."""
     line = bytearray(line)
-    if kind == 2:
-        return bytearray((a + b) & 255 for a, b in zip(line, above))
     if kind == 0:
         return line
+    if kind == 1:
+        return undone_left(line, step)
+    if kind == 2:
+        return bytearray((a + b) & 255 for a, b in zip(line, above))
+    if kind not in (3, 4):
+        raise ValueError("this PNG file has an unknown filter")
     for i in range(len(line)):
         left = line[i - step] if i >= step else 0
-        corner = above[i - step] if i >= step else 0
-        if kind == 1:
-            add = left
-        elif kind == 3:
+        if kind == 3:
             add = (left + above[i]) // 2
-        elif kind == 4:
-            add = nearest(left, above[i], corner)
         else:
-            raise ValueError("a line has an unknown filter")
+            add = nearest(left, above[i], above[i - step] if i >= step else 0)
         line[i] = (line[i] + add) & 255
     return line
 
@@ -110,45 +125,66 @@ def palette_of(colours, alphas):
     return [list(colours[3 * i:3 * i + 3]) + [alphas[i]] for i in range(count)]
 
 
+def header_in(data):
+    """Width, height, depth and colour type of a PNG file."""
+    name, body = next(chunks(data), (b"", b""))
+    if name != b"IHDR":
+        raise ValueError("this PNG file has no header")
+    width, height, bits, colour_type, _, _, interlaced = struct.unpack(">IIBBBBB", body)
+    if bits not in DEPTHS.get(colour_type, ()) or width == 0 or height == 0:
+        raise ValueError("this PNG file is damaged")
+    if interlaced:
+        raise ValueError("interlaced PNG files are not read: save it without interlacing")
+    return width, height, bits, colour_type
+
+
+def told_of(path, function, data):
+    """What the function makes of the data of a file, with the file's name before each fault."""
+    try:
+        return function(data)
+    except (IndexError, struct.error, zlib.error):
+        raise ValueError("%s: this PNG file is damaged" % path) from None
+    except ValueError as fault:
+        raise ValueError("%s: %s" % (path, fault)) from None
+
+
 def read_png(path):
     with open(path, "rb") as file:
-        data = file.read()
-    try:
-        return picture_of(data)
-    except (IndexError, KeyError, struct.error, zlib.error):
-        raise ValueError(path + " is damaged")
+        return told_of(path, picture_of, file.read())
+
+
+def png_size(path):
+    """Width and height of a picture, by the head of its file."""
+    with open(path, "rb") as file:
+        return told_of(path, header_in, file.read(33))[:2]
+
+
+def unpacked(packed, height, length, step):
+    """The lines of a picture, unfiltered."""
+    lines = zlib.decompress(packed)
+    if len(lines) != height * (length + 1):
+        raise ValueError("this PNG file is damaged")
+    above = bytearray(length)
+    for at in range(0, len(lines), length + 1):
+        above = unfiltered(lines[at], lines[at + 1:at + 1 + length], above, step)
+        yield above
 
 
 def picture_of(data):
-    header, colours, transparent, packed = None, b"", b"", b""
+    width, height, bits, colour_type = header_in(data)
+    bodies = {b"PLTE": b"", b"tRNS": b"", b"IDAT": b""}
     for name, body in chunks(data):
-        if name == b"IHDR":
-            header = struct.unpack(">IIBBBBB", body)
-        elif name == b"PLTE":
-            colours = body
-        elif name == b"tRNS":
-            transparent = body
-        elif name == b"IDAT":
-            packed += body
-    if header is None:
-        raise ValueError("this PNG file has no header")
-    width, height, bits, colour_type, _, _, interlaced = header
-    if interlaced:
-        raise ValueError("interlaced PNG files are not read: save it without interlacing")
+        if name in bodies:
+            bodies[name] += body
     per_pixel = SAMPLES[colour_type]
-    palette = palette_of(colours, transparent) if colour_type == 3 else None
+    palette = palette_of(bodies[b"PLTE"], bodies[b"tRNS"]) if colour_type == 3 else None
     clear = None
-    if transparent and colour_type in (0, 2):
-        clear = struct.unpack(">%dH" % per_pixel, transparent)
-    lines = zlib.decompress(packed)
+    if bodies[b"tRNS"] and colour_type in (0, 2):
+        clear = struct.unpack(">%dH" % per_pixel, bodies[b"tRNS"])
     length = (width * per_pixel * bits + 7) // 8
     step = max(1, per_pixel * bits // 8)
-    above, rows = bytearray(length), []
-    for y in range(height):
-        at = y * (length + 1)
-        above = unfiltered(lines[at], lines[at + 1:at + 1 + length], above, step)
-        numbers = samples_of(above, bits, width * per_pixel)
-        rows.append(coloured(numbers, colour_type, bits, palette, clear))
+    rows = [coloured(samples_of(line, bits, width * per_pixel), colour_type, bits, palette, clear)
+            for line in unpacked(bodies[b"IDAT"], height, length, step)]
     return Picture(width, height, rows, 65535 if bits == 16 else 255)
 
 
@@ -173,8 +209,7 @@ def packed_rows(picture):
 def write_png(path, picture):
     body = header_of(picture.width, picture.height)
     body += chunk(b"IDAT", packed_rows(picture)) + chunk(b"IEND", b"")
-    with open(path, "wb") as file:
-        file.write(SIGNATURE + body)
+    whole_file.write(path, SIGNATURE + body)
 
 
 def write_animation(path, pictures, rate):
@@ -194,8 +229,7 @@ def write_animation(path, pictures, rate):
         else:
             body += chunk(b"fdAT", struct.pack(">I", number) + packed)
             number += 1
-    with open(path, "wb") as file:
-        file.write(SIGNATURE + body + chunk(b"IEND", b""))
+    whole_file.write(path, SIGNATURE + body + chunk(b"IEND", b""))
 
 
 # Premultiplied pixels, levels and frames
@@ -228,8 +262,7 @@ def write_level(path, kind, x, y, width, height, rows):
         raise ValueError("the sides of a drawing are 1 to 4096")
     if not (-65536 <= x <= 65536 and -65536 <= y <= 65536):
         raise ValueError("a drawing lies within 65536 of the origin")
-    with open(path, "wb") as file:
-        file.write(b"XRL1" + struct.pack("<BiiII", kind, x, y, width, height) + b"".join(rows))
+    whole_file.write(path, b"XRL1" + struct.pack("<BiiII", kind, x, y, width, height) + b"".join(rows))
 
 
 def word(ink, paint, tone):
