@@ -16,6 +16,13 @@ import sys
 import pictures
 
 
+def paths_of(base, first, last):
+    """The frames of rows."""
+    if not 1 <= first <= last <= 9999:
+        raise ValueError("FROM is 1 to 9999, and TO is FROM to 9999")
+    return ["%s.%04d.xfr" % (base, row) for row in range(first, last + 1)]
+
+
 def size_of(path):
     """Width and height of a frame that is whole."""
     try:
@@ -95,9 +102,7 @@ def main():
     words.add_argument("--over", type=colour, metavar="RRGGBB")
     words.add_argument("--size", action="store_true")
     given = words.parse_args()
-    paths = ["%s.%04d.xfr" % (given.base, row) for row in range(given.first, given.last + 1)]
-    if not 1 <= given.first <= given.last <= 9999:
-        raise ValueError("FROM is 1 to 9999, and TO is FROM to 9999")
+    paths = paths_of(given.base, given.first, given.last)
     size = size_of_all(paths)
     if given.size:
         print(*size)
