@@ -87,5 +87,9 @@ class Cels:
         except ValueError as fault:
             raise ValueError("%s: %s" % (picture, fault)) from None
 
+    def styles(self):
+        """The styles of the palette; None in colour."""
+        return None if self.words is None else self.words.styles
+
     def line(self, row, y):
         return pictures.premultiplied(row) if self.words is None else self.words.row(row, y)

@@ -46,21 +46,35 @@ def chunks(data):
         at += 12 + length
 
 
-def nearest(left, above, corner):
-    """The one of three neighbours that is nearest to left + above - corner."""
-    guess = left + above - corner
-    by_left, by_above, by_corner = abs(guess - left), abs(guess - above), abs(guess - corner)
-    if by_left <= by_above and by_left <= by_corner:
-        return left
-    return above if by_above <= by_corner else corner
-
-
 def undone_left(line, step):
     """The bytes of a line that holds the differences from the left."""
     out = bytearray(len(line))
     for channel in range(step):
         out[channel::step] = bytes(total & 255 for total in itertools.accumulate(line[channel::step]))
     return out
+
+
+def undone_mean(line, above, step):
+    """The bytes of a line that holds the differences from the mean of the bytes at the left and above."""
+    for i in range(len(line)):
+        left = line[i - step] if i >= step else 0
+        line[i] = (line[i] + (left + above[i]) // 2) & 255
+    return line
+
+
+def undone_nearest(line, above, step):
+    """The bytes of a line that holds the differences from that neighbour at the left, above or between them which is
+    nearest to left + above - corner."""
+    for i in range(min(step, len(line))):
+        line[i] = (line[i] + above[i]) & 255
+    for i in range(step, len(line)):
+        left, up, corner = line[i - step], above[i], above[i - step]
+        by_left, by_up, by_corner = abs(up - corner), abs(left - corner), abs(left + up - 2 * corner)
+        if by_left <= by_up and by_left <= by_corner:
+            line[i] = (line[i] + left) & 255
+        else:
+            line[i] = (line[i] + (up if by_up <= by_corner else corner)) & 255
+    return line
 
 
 def unfiltered(kind, line, above, step):
@@ -72,16 +86,11 @@ def unfiltered(kind, line, above, step):
         return undone_left(line, step)
     if kind == 2:
         return bytearray((a + b) & 255 for a, b in zip(line, above))
-    if kind not in (3, 4):
-        raise ValueError("this PNG file has an unknown filter")
-    for i in range(len(line)):
-        left = line[i - step] if i >= step else 0
-        if kind == 3:
-            add = (left + above[i]) // 2
-        else:
-            add = nearest(left, above[i], above[i - step] if i >= step else 0)
-        line[i] = (line[i] + add) & 255
-    return line
+    if kind == 3:
+        return undone_mean(line, above, step)
+    if kind == 4:
+        return undone_nearest(line, above, step)
+    raise ValueError("this PNG file has an unknown filter")
 
 
 def samples_of(line, bits, count):

@@ -4,11 +4,13 @@ A column becomes a column, in the order of the sheet. Columns of one name share 
 middle of the camera, without its clear borders. The scene is written last, when all level files are there.
 """
 import argparse
+import concurrent.futures
 import contextlib
 import json
 import os
 import re
 import shutil
+import signal
 import sys
 import tempfile
 
@@ -62,7 +64,7 @@ def run(words, read):
     told = []
     try:
         done = Maker(given, read(given.sheet, told.append), told.append).make()
-    except (OSError, ValueError) as fault:
+    except (OSError, ValueError, concurrent.futures.BrokenExecutor) as fault:
         print("%s: %s" % (words.prog, fault), file=sys.stderr)
         return 1
     except KeyboardInterrupt:
@@ -90,20 +92,36 @@ def room_in(folder):
 
 
 class Level:
-    """The drawings of the columns of one name: pictures by their place, and the names of their files."""
+    """The drawings of the columns of one name: pictures by their place, the names of their files, and the styles of
+    the palette where they are ink and paint."""
 
     def __init__(self, name, inks):
-        self.name = name
-        self.pictures = []
-        self.files = []
-        self.cels = Cels(inks)
+        self.name, self.inks = name, inks
+        self.pictures, self.files, self.styles = [], [], None
 
     def text(self, palettes):
         """The level in a scene, whose palette is added to those that there are."""
-        if self.cels.words is None:
+        if self.inks is None:
             return {"kind": "colour", "drawings": self.files}
-        palettes.append(self.cels.words.styles)
+        palettes.append(self.styles)
         return {"kind": "cm32", "palette": len(palettes) - 1, "drawings": self.files}
+
+
+def make_files(level, drawings, room, camera):
+    """Makes the files of a level, and gives the styles of its palette."""
+    cels = Cels(level.inks)
+    for picture, file in zip(level.pictures, level.files):
+        cels.make(drawings.path(picture), os.path.join(room, file), camera)
+    return cels.styles()
+
+
+def make_all(levels, drawings, room, camera):
+    """Makes the files of all levels, side by side where there is more than one processor."""
+    with concurrent.futures.ProcessPoolExecutor(
+            len(os.sched_getaffinity(0)), initializer=signal.signal, initargs=(signal.SIGINT, signal.SIG_IGN)) as pool:
+        made = pool.map(make_files, levels, *([it] * len(levels) for it in (drawings, room, camera)))
+        for level, styles in zip(levels, made):
+            level.styles = styles
 
 
 class Maker:
@@ -172,18 +190,13 @@ class Maker:
         found = self.find()
         camera = self.camera()
         with room_in(self.folder or ".") as room:
-            for level in self.levels.values():
-                self.make_level(level, room, camera)
+            make_all(list(self.levels.values()), self.drawings, room, camera)
             text = self.text(found, camera)
             for file in [file for level in self.levels.values() for file in level.files]:
                 os.replace(os.path.join(room, file), os.path.join(self.folder, file))
             whole_file.write(self.given.scene, text)
         return "%s: %d rows, %d columns, %d drawings, camera %d by %d" % (
             self.given.scene, self.sheet.rows, len(self.cells), sum(len(it.files) for it in self.levels.values()), *camera)
-
-    def make_level(self, level, room, camera):
-        for picture, file in zip(level.pictures, level.files):
-            level.cels.make(self.drawings.path(picture), os.path.join(room, file), camera)
 
     def text(self, found, camera):
         """The text of the scene."""
