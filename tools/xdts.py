@@ -14,7 +14,7 @@ NOTHING, HOLD = "SYMBOL_NULL_CELL", "SYMBOL_HYPHEN"
 MARKS = ("SYMBOL_TICK_1", "SYMBOL_TICK_2")
 KINDS = {dict: "an object", list: "a list", int: "a whole number", str: "a text"}
 KNOWN = {
-    "the sheet": {"version", "timeTables", "header"},
+    "the sheet": {"version", "timeTables"},
     "a time table": {"name", "duration", "fields", "timeTableHeaders"},
     "a field": {"fieldId", "tracks"},
     "a track": {"trackNo", "frames"},

@@ -62,6 +62,7 @@ class FromXdts(InAFolder):
         said = [line.partition("xdts_to_scene: ")[2] for line in told]
         self.assertEqual(said, [
             "extra of the sheet is left out",
+            "header of the sheet is left out",
             "time table 2 (second) is left out: the first one counts",
             "field 3, dialogue, is left out (2 tracks)",
             "field 5, camera work, is left out",
@@ -75,6 +76,17 @@ class FromXdts(InAFolder):
             "column A, row 5: an entry without a value empties the cell",
             "column A, row 6: what stands behind the last row, 5, is left out",
         ])
+
+    def test_a_sheet_as_programs_write_it(self):
+        """In one line, with its header, and each track emptied behind its last row."""
+        self.pictures("A/A_0001", "A/A_0002")
+        scene, told = self.make(FIRST_LINE.replace("\n", "\r\n") + (
+            '{"header":{"cut":"3","scene":"1"},"timeTables":[{"duration":6,"fields":[{"fieldId":0,"tracks":[{"frames":['
+            '{"data":[{"id":0,"values":["1"]}],"frame":0},{"data":[{"id":0,"values":["SYMBOL_HYPHEN"]}],"frame":1},'
+            '{"data":[{"id":0,"values":["2"]}],"frame":3},{"data":[{"id":0,"values":["SYMBOL_NULL_CELL"]}],"frame":6}],'
+            '"trackNo":0}]}],"name":"sheet","timeTableHeaders":[{"fieldId":0,"names":["A"]}]}],"version":5}'))
+        self.assertEqual(spans(scene["sheets"][0]["columns"][0]), [(1, 3, 0, 0), (4, 6, 0, 1)])
+        self.assertEqual(told, ["xdts_to_scene: header of the sheet is left out"])
 
     def test_a_frame_before_the_first_is_held_there(self):
         self.pictures("A/1", "A/2")
