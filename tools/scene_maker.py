@@ -58,6 +58,11 @@ def words_for(description, sheet):
     return words
 
 
+def in_a_line(words, text):
+    """A line that a script tells; a name may have anything in it."""
+    return "%s: %s" % (words.prog, "".join(it if it.isprintable() else "?" for it in str(text)))
+
+
 def run(words, read):
     """Reads the words and the sheet and makes the scene; gives the status. Where it is refused, nothing else is told."""
     given = words.parse_args()
@@ -65,12 +70,12 @@ def run(words, read):
     try:
         done = Maker(given, read(given.sheet, told.append), told.append).make()
     except (OSError, ValueError, concurrent.futures.BrokenExecutor) as fault:
-        print("%s: %s" % (words.prog, fault), file=sys.stderr)
+        print(in_a_line(words, fault), file=sys.stderr)
         return 1
     except KeyboardInterrupt:
         return 130
     for line in told:
-        print("%s: %s" % (words.prog, line), file=sys.stderr)
+        print(in_a_line(words, line), file=sys.stderr)
     print(done)
     return 0
 

@@ -120,8 +120,8 @@ class Reader:
     def names(self, table):
         """The names of the columns, by the number of the track."""
         found = []
-        for header in table.get("timeTableHeaders", []):
-            of_kind(header, dict, "an element of timeTableHeaders of the time table")
+        headers = objects(table, "timeTableHeaders", "the time table") if "timeTableHeaders" in table else []
+        for header in headers:
             if field(header, "fieldId", int, "a header") == CELLS:
                 found = [of_kind(it, str, "a name of a column") for it in field(header, "names", list, "a header")]
         return found

@@ -144,6 +144,10 @@ class FromXdts(InAFolder):
         self.refused("drawing 2 of column A: no picture in cels, looked for A/2.png, A/A_2.png, A/A-2.png, A/A.2.png, "
                      "A/A2.png, A_2.png, A-2.png, A.2.png, A2.png; 1 more missing", text)
 
+    def test_names_break_no_line(self):
+        self.pictures("A/1")
+        self.refused("drawing a?b? of column ?: no picture in cels", xdts(table(1, ["\r"], [track(0, f0="a\nb\ud800")])))
+
     def test_two_pictures_for_a_drawing_are_refused(self):
         self.pictures("A/1", "A/01")
         self.refused("there are two pictures for it in cels, A/01.png and A/1.png", xdts(table(1, ["A"], [track(0, f0="1")])))
@@ -183,6 +187,8 @@ class FromXdts(InAFolder):
             ("the time table has no duration", xdts({})),
             ("has no field of cells", xdts({"duration": 1, "fields": [{"fieldId": 3}]})),
             ("two fields of cells", xdts(table(1, [], [], {"fieldId": 0, "tracks": []}))),
+            ("timeTableHeaders of the time table is not a list", xdts({"duration": 1, "fields": [{"fieldId": 0, "tracks": []}],
+                                                                      "timeTableHeaders": 5})),
             ("there is a track -1", cells(good, number=-1)),
             ("two tracks 0", xdts(table(1, [], [track(0), track(0)]))),
             ("column A has frame 0 twice", cells(good, good)),
