@@ -170,8 +170,9 @@ def png_size(path):
 
 def unpacked(packed, height, length, step):
     """The lines of a picture, unfiltered."""
-    lines = zlib.decompress(packed)
-    if len(lines) != height * (length + 1):
+    whole = height * (length + 1)
+    lines = zlib.decompressobj().decompress(packed, whole + 1)
+    if len(lines) != whole:
         raise ValueError("this PNG file is damaged")
     above = bytearray(length)
     for at in range(0, len(lines), length + 1):
