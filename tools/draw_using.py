@@ -12,6 +12,7 @@ import sys
 
 import pictures
 import xdts
+from cels import seen_box
 from frames_to_png import contact_sheet
 from sheets import EMPTY, exposures
 
@@ -87,6 +88,14 @@ def laid(pixel):
     return [(pixel[c] * alpha + PAPER[c] * (255 - alpha)) // 255 for c in range(3)] + [255]
 
 
+def head_of(picture):
+    """What is seen of a drawing, so small that it fits over a column."""
+    left, top, right, bottom = seen_box([bytes(row) for row in picture.rows])
+    rows = [row[4 * left:4 * right] for row in picture.rows[top:bottom]]
+    cut = pictures.Picture(right - left, bottom - top, rows)
+    return smaller(cut, max(1, -(-cut.width // (CELL_WIDE - 8)), -(-cut.height // (HEAD - 6))))
+
+
 def drawings_of(hop):
     names = ["BG/pond.png"] + sorted(glob.glob("frog/*.png", root_dir=hop + "/drawings"))
     names += sorted(glob.glob("fly_*.png", root_dir=hop + "/drawings")) + ["reeds.png"]
@@ -94,14 +103,14 @@ def drawings_of(hop):
 
 
 def sheet_picture(sheet, heads):
-    """The exposure sheet in two halves: figures where a drawing begins, a line where it is held, a cross where the
-    column becomes empty."""
+    """The exposure sheet in two halves: a figure, or a plus, where a drawing begins, a line where it is held, a cross
+    where the column becomes empty."""
     wide = CELL_WIDE * (len(sheet.columns) + 1)
     paper = Paper(2 * wide + 24, HEAD + HALF * CELL_HIGH + 1, PAPER)
     for half in range(2):
         left = half * (wide + 24)
         for number, (column, head) in enumerate(zip(sheet.columns, heads), start=1):
-            paper.put(head, left + number * CELL_WIDE + 4, 4)
+            paper.put(head, left + number * CELL_WIDE + (CELL_WIDE - head.width) // 2, (HEAD - head.height) // 2)
             draw_column(paper, sheet, column, left + number * CELL_WIDE, half * HALF)
         for row in range(HALF + 1):
             paper.fill(left, HEAD + row * CELL_HIGH, left + wide, HEAD + row * CELL_HIGH + 1, LINES)
@@ -125,10 +134,11 @@ def draw_column(paper, sheet, column, left, above):
 
 def main(hop, frames, folder):
     os.makedirs(folder, exist_ok=True)
-    drawn = [on_paper(smaller(picture, 4)) for picture in drawings_of(hop)]
+    drawings = drawings_of(hop)
+    drawn = [on_paper(smaller(picture, 3)) for picture in drawings]
     pictures.write_png(os.path.join(folder, "drawings.png"), contact_sheet(drawn, 6))
     sheet = xdts.read(os.path.join(hop, "hop.xdts"), lambda line: None)
-    heads = [smaller(picture, 10) for picture in (drawings_of(hop)[number] for number in (0, 1, 11, 15))]
+    heads = [head_of(drawings[number]) for number in (0, 1, 11, 15)]
     pictures.write_png(os.path.join(folder, "sheet.png"), sheet_picture(sheet, heads))
     read = [smaller(pictures.read_frame(os.path.join(frames, "hop.%04d.xfr" % row)), 2) for row in range(1, 41, 2)]
     pictures.write_animation(os.path.join(folder, "film.png"), read, 12)
