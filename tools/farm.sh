@@ -8,10 +8,10 @@
 # The words are those of `vazhettin render`; TO may be any row up to 9999. Parts have N rows, a multiple of eight, 24 if
 # nothing else is said. So each begins at FROM plus a multiple of eight and has whole sections; a drawing that is held
 # over the edge of a part is read again in each. At one time there are as many parts as --jobs says, on each host; else
-# as many as it has processors. A host is one that ssh reaches without a question, with the program and the working
-# folder at the same places as here, as is each node of Slurm. VAZHETTIN names the program; without it that is the
-# launcher beside this folder, which builds one first. A part that failed and a frame that is missing are named, each in
-# a line, and the status is 1.
+# as many as it has processors. A host is one that ssh reaches without a question, or : for this machine; the program
+# and the working folder are at the same places there as here, as they are on each node of Slurm. VAZHETTIN names the
+# program; without it that is the launcher beside this folder, which builds one first. A part that failed and a frame
+# that is missing are named, each in a line, and the status is 1.
 #
 # shellcheck disable=SC2015 # in A && B || fail, either may fail
 set -u
