@@ -142,8 +142,8 @@ def main(hop, frames, folder):
     pictures.write_png(os.path.join(folder, "sheet.png"), sheet_picture(sheet, heads))
     read = [smaller(pictures.read_frame(os.path.join(frames, "hop.%04d.xfr" % row)), 2) for row in range(1, 41, 2)]
     pictures.write_animation(os.path.join(folder, "film.png"), read, 12)
-    shown = [smaller(pictures.read_frame(os.path.join(frames, "hop.%04d.xfr" % row)), 3) for row in range(4, 41, 4)]
-    pictures.write_png(os.path.join(folder, "frames.png"), contact_sheet(shown, 5))
+    shown = [smaller(pictures.read_frame(os.path.join(frames, "hop.%04d.xfr" % row)), 2) for row in range(5, 41, 5)]
+    pictures.write_png(os.path.join(folder, "frames.png"), contact_sheet(shown, 4))
 
 
 if __name__ == "__main__":
