@@ -61,7 +61,7 @@ class Drawings:
         return None
 
     def find_all(self, wanted):
-        """The picture of each column and drawing; what is missing is a fault that says what was looked for."""
+        """The path of the picture of each column and drawing; what is missing is a fault that says what was looked for."""
         found = {it: self.find(*it) for it in wanted}
         missing = [it for it in wanted if found[it] is None]
         if missing:
@@ -70,7 +70,4 @@ class Drawings:
             others = "; %d more missing" % (len(missing) - 1) if missing[1:] else ""
             raise ValueError("drawing %s of column %s: no picture in %s, looked for %s%s"
                              % (drawing, column, self.folder, ", ".join(names), others))
-        return found
-
-    def path(self, picture):
-        return os.path.join(self.folder, picture)
+        return {it: os.path.join(self.folder, picture) for it, picture in found.items()}

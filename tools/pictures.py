@@ -1,6 +1,6 @@
 """PNG pictures, raw level files and raw frame files, with Python's standard library alone.
 
-A picture here is its width, its height and its rows from the top down. A row is a flat list of
+A picture here is its width, its height and its rows from the top down. A row is a flat list, or the bytes, of
 red, green, blue, alpha, red, .. with straight colours.
 """
 import itertools
@@ -96,35 +96,41 @@ def unfiltered(kind, line, above, step):
 def samples_of(line, bits, count):
     """The numbers of a line."""
     if bits == 8:
-        return list(line[:count])
+        return line[:count]
     if bits == 16:
-        return list(struct.unpack(">%dH" % count, bytes(line[:2 * count])))
+        return list(struct.unpack(">%dH" % count, line[:2 * count]))
     each = 8 // bits
     mask = (1 << bits) - 1
-    return [(line[i // each] >> (8 - bits - bits * (i % each))) & mask for i in range(count)]
+    return bytes((line[i // each] >> (8 - bits - bits * (i % each))) & mask for i in range(count))
+
+
+def alpha_of(pixels, clear, full):
+    """The alpha of pixels, one of which may stand for clear."""
+    return [0 if it == clear else full for it in pixels]
+
+
+def planes_of(numbers, colour_type, bits, palette, clear):
+    """Red, green, blue and alpha of the numbers of a line, each by itself."""
+    full = 65535 if bits == 16 else 255
+    if colour_type == 6:
+        return [numbers[c::4] for c in range(4)]
+    if colour_type == 4:
+        return [numbers[0::2]] * 3 + [numbers[1::2]]
+    if colour_type == 3:
+        return [[palette[n][c] for n in numbers] for c in range(4)]
+    if colour_type == 2:
+        colours = [numbers[c::3] for c in range(3)]
+        return colours + [alpha_of(zip(*colours), clear, full) if clear else [full] * len(colours[0])]
+    grey = numbers if bits >= 8 else [n * 255 // ((1 << bits) - 1) for n in numbers]
+    return [grey] * 3 + [alpha_of(zip(numbers), clear, full) if clear else [full] * len(numbers)]
 
 
 def coloured(numbers, colour_type, bits, palette, clear):
     """The straight pixels of the numbers of a line."""
-    most = (1 << bits) - 1
-    full = 65535 if bits == 16 else 255
-    out = []
-    if colour_type == 6:
-        return numbers
-    if colour_type == 3:
-        for n in numbers:
-            out += palette[n]
-    elif colour_type == 2:
-        for i in range(0, len(numbers), 3):
-            rgb = numbers[i:i + 3]
-            out += rgb + [0 if tuple(rgb) == clear else full]
-    elif colour_type == 4:
-        for i in range(0, len(numbers), 2):
-            out += [numbers[i]] * 3 + [numbers[i + 1]]
-    else:
-        for n in numbers:
-            grey = n if bits >= 8 else n * 255 // most
-            out += [grey] * 3 + [0 if (n,) == clear else full]
+    planes = planes_of(numbers, colour_type, bits, palette, clear)
+    out = [0] * (4 * len(planes[0])) if bits == 16 else bytearray(4 * len(planes[0]))
+    for channel, plane in enumerate(planes):
+        out[channel::4] = plane
     return out
 
 
@@ -247,6 +253,8 @@ def write_animation(path, pictures, rate):
 def premultiplied(row):
     """The bytes of a row of a level: each colour times its alpha, to the nearest whole number."""
     out = bytearray(row)
+    if out[3::4].count(255) == len(row) // 4:
+        return bytes(out)
     for i in range(0, len(row), 4):
         a = row[i + 3]
         if a != 255:

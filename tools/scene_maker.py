@@ -66,6 +66,7 @@ def in_a_line(words, text):
 def run(words, read):
     """Reads the words and the sheet and makes the scene; gives the status. Where it is refused, nothing else is told."""
     given = words.parse_args()
+    signal.signal(signal.SIGTERM, lambda *_: sys.exit(130))
     told = []
     try:
         done = Maker(given, read(given.sheet, told.append), told.append).make()
@@ -112,20 +113,28 @@ class Level:
         return {"kind": "cm32", "palette": len(palettes) - 1, "drawings": self.files}
 
 
-def make_files(level, drawings, room, camera):
-    """Makes the files of a level, and gives the styles of its palette."""
-    cels = Cels(level.inks)
-    for picture, file in zip(level.pictures, level.files):
-        cels.make(drawings.path(picture), os.path.join(room, file), camera)
+def parts_of(level):
+    """Pictures and files of a level that are made together: all, where they share a palette, else each by itself."""
+    pairs = list(zip(level.pictures, level.files))
+    return [[it] for it in pairs] if level.inks is None else [pairs]
+
+
+def make_files(inks, pairs, room, camera):
+    """Makes level files of pictures, and gives the styles of their palette."""
+    cels = Cels(inks)
+    for picture, file in pairs:
+        cels.make(picture, os.path.join(room, file), camera)
     return cels.styles()
 
 
-def make_all(levels, drawings, room, camera):
+def make_all(levels, room, camera):
     """Makes the files of all levels, side by side where there is more than one processor."""
+    jobs = [(level, part) for level in levels for part in parts_of(level)]
     with concurrent.futures.ProcessPoolExecutor(
             len(os.sched_getaffinity(0)), initializer=signal.signal, initargs=(signal.SIGINT, signal.SIG_IGN)) as pool:
-        made = pool.map(make_files, levels, *([it] * len(levels) for it in (drawings, room, camera)))
-        for level, styles in zip(levels, made):
+        made = pool.map(make_files, [level.inks for level, _ in jobs], [part for _, part in jobs],
+                        [room] * len(jobs), [camera] * len(jobs))
+        for (level, _), styles in zip(jobs, made):
             level.styles = styles
 
 
@@ -180,7 +189,7 @@ class Maker:
 
     def camera(self):
         """Width and height, by the option or by the picture with the most pixels."""
-        sizes = [size_of(self.drawings.path(it)) for level in self.levels.values() for it in level.pictures]
+        sizes = [size_of(it) for level in self.levels.values() for it in level.pictures]
         if self.given.camera:
             return tuple(self.given.camera)
         if not sizes:
@@ -195,7 +204,7 @@ class Maker:
         found = self.find()
         camera = self.camera()
         with room_in(self.folder or ".") as room:
-            make_all(list(self.levels.values()), self.drawings, room, camera)
+            make_all(self.levels.values(), room, camera)
             text = self.text(found, camera)
             for file in [file for level in self.levels.values() for file in level.files]:
                 os.replace(os.path.join(room, file), os.path.join(self.folder, file))

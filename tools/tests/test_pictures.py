@@ -57,7 +57,7 @@ class Kinds(InAFolder):
     def test_what_is_written_is_read_again(self):
         rows = [[1, 2, 3, 4, 5, 6, 7, 255], [0, 0, 0, 0, 255, 255, 255, 255]]
         pictures.write_png(self.folder / "two.png", pictures.Picture(2, 2, rows))
-        self.assertEqual(pictures.read_png(self.folder / "two.png").rows, rows)
+        self.assertEqual([list(row) for row in pictures.read_png(self.folder / "two.png").rows], rows)
         self.assertEqual(self.files(), ["two.png"])
 
     def test_what_is_not_read_is_told_with_its_file(self):

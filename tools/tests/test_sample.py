@@ -31,7 +31,7 @@ class Sample(InAFolder):
         self.assertEqual((HOP / "hop.xdts").read_text(), draw_hop.xdts())
         self.assertEqual((HOP / "hop.csv").read_text(), draw_hop.table())
         fly = draw_hop.flat_picture(draw_hop.fly(*draw_hop.FLIES[0]), (290, 180, 334, 234))
-        self.assertEqual(pictures.read_png(HOP / "drawings/fly_0001.png").rows, fly.rows)
+        self.assertEqual([list(row) for row in pictures.read_png(HOP / "drawings/fly_0001.png").rows], fly.rows)
 
 
 def layer(name):
