@@ -205,12 +205,20 @@ class Maker:
         camera = self.camera()
         with room_in(self.folder or ".") as room:
             make_all(self.levels.values(), room, camera)
+            self.tell_unused_inks()
             text = self.text(found, camera)
             for file in [file for level in self.levels.values() for file in level.files]:
                 os.replace(os.path.join(room, file), os.path.join(self.folder, file))
             whole_file.write(self.given.scene, text)
         return "%s: %d rows, %d columns, %d drawings, camera %d by %d" % (
             self.given.scene, self.sheet.rows, len(self.cells), sum(len(it.files) for it in self.levels.values()), *camera)
+
+    def tell_unused_inks(self):
+        """A colour that no drawing has is likely another one than was meant."""
+        used = {tuple(style[:3]) for level in self.levels.values() for style in (level.styles or [])[1:]}
+        for colour in [colour for some in self.given.ink or [] for colour in some]:
+            if colour not in used:
+                self.tell("no drawing has the ink %s" % bytes(colour).hex())
 
     def text(self, found, camera):
         """The text of the scene."""

@@ -120,6 +120,13 @@ class Levels(InAFolder):
         self.assertEqual(self.words("A.0001.xrl"), ((0, 0, 2, 2), [(1, 0, 0), (0, 2, 255), (1, 0, 0), (1, 0, 0)]))
         self.assertEqual(self.words("A.0002.xrl")[1], [(0, 2, 255), (0, 3, 255), (1, 0, 0)])
 
+    def test_an_ink_that_no_drawing_has_is_told(self):
+        self.write("cels/A/1.png", self.rows([INK, RED, (0, 0, 0, 0)]))
+        self.write("shot.xdts", xdts(table(1, ["A"], [track(0, f0="1")])))
+        ran = self.run_here(MAKE, "shot.xdts", "cels", "out/shot.json", "--ink", "100818,000000", "--ink", "C81E14")
+        self.assertEqual((ran.returncode, ran.stderr), (0, "xdts_to_scene: no drawing has the ink 000000\n"))
+        self.assertEqual(self.words("A.0001.xrl")[1], [(1, 0, 0), (2, 0, 0)])
+
     def test_without_inks_all_is_paint(self):
         self.write("cels/A/1.png", self.rows([INK, RED]))
         self.make("--cm32")

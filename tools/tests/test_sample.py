@@ -69,8 +69,21 @@ class Rendered(InAFolder):
         for row in (1, 6, 7, 15, 16, 17, 34, 35, 40):
             frame = (self.folder / ("hop.%04d.xfr" % row)).read_bytes()
             self.assertEqual(pixels_of(frame) == self.frame_wanted(row), True, row)
-        if shutil.which("ffmpeg"):
-            self.runs(TOOLS / "film.sh", "hop", 1, 40, "hop.mp4")
+
+    @unittest.skipUnless(shutil.which("ffmpeg"), "ffmpeg is missing: apt-get install ffmpeg")
+    def test_the_commands_of_the_page_make_the_film(self):
+        """Those of its numbered steps, as they stand there, in a copy of what they need."""
+        for name in ("tools", "examples"):
+            os.symlink(TOP / name, self.folder / name)
+        os.symlink(os.path.abspath(os.environ["VAZHETTIN"]), self.folder / "vazhettin")
+        steps = (TOP / "docs/USING.md").read_text().partition("\n## 1.")[2].partition("\n## On many machines")[0]
+        commands = [line for line in steps.splitlines() if line.startswith("    ") and line.split()[0] != "xdts_to_scene:"]
+        commands = [line for line in commands if ": 40 rows," not in line]
+        self.assertEqual(len(commands), 5)
+        self.runs("sh", "-ec", "\n".join(commands))
+        made = os.listdir(self.folder / "out/hop")
+        self.assertEqual(len([name for name in made if name.endswith(".xfr")]), 40)
+        self.assertLessEqual({"hop.json", "hop.png", "hop.mp4"}, set(made))
 
 
 if __name__ == "__main__":
