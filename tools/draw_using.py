@@ -16,13 +16,13 @@ from cels import seen_box
 from frames_to_png import contact_sheet
 from sheets import EMPTY, exposures
 
-PAPER, LINES, PEN, HOLD = (250, 248, 240, 255), (196, 200, 204, 255), (46, 30, 48, 255), (150, 150, 160, 255)
+GROUND, LINES, PEN, HOLD = (250, 248, 240, 255), (196, 200, 204, 255), (46, 30, 48, 255), (150, 150, 160, 255)
 GLYPHS = {"0": "75557", "1": "26227", "2": "71747", "3": "71717", "4": "55711", "5": "74717", "6": "74757", "7": "71222",
           "8": "75757", "9": "75717", "x": "55255", "*": "02720"}
 CELL_WIDE, CELL_HIGH, HEAD, HALF = 56, 16, 36, 20
 
 
-class Paper:
+class Canvas:
     """A picture to draw on."""
 
     def __init__(self, width, height, colour):
@@ -47,7 +47,7 @@ class Paper:
                         self.fill(at, top + 2 * y, at + 2, top + 2 * y + 2, PEN)
 
     def put(self, picture, left, top):
-        """Lays a picture over the paper where it is not clear."""
+        """Lays a picture over the canvas where it is not clear."""
         for y, row in enumerate(picture.rows):
             for x in range(picture.width):
                 if row[4 * x + 3]:
@@ -75,17 +75,17 @@ def mean(pixels):
     return colour + [alpha // len(pixels)]
 
 
-def on_paper(picture):
-    """A drawing on light paper."""
-    paper = Paper(picture.width, picture.height, PAPER)
+def on_ground(picture):
+    """A drawing on a light ground."""
+    canvas = Canvas(picture.width, picture.height, GROUND)
     rows = [[value for x in range(picture.width) for value in laid(row[4 * x:4 * x + 4])] for row in picture.rows]
-    paper.rows = rows
-    return paper.picture()
+    canvas.rows = rows
+    return canvas.picture()
 
 
 def laid(pixel):
     alpha = pixel[3]
-    return [(pixel[c] * alpha + PAPER[c] * (255 - alpha)) // 255 for c in range(3)] + [255]
+    return [(pixel[c] * alpha + GROUND[c] * (255 - alpha)) // 255 for c in range(3)] + [255]
 
 
 def head_of(picture):
@@ -106,36 +106,36 @@ def sheet_picture(sheet, heads):
     """The exposure sheet in two halves: a figure, or a plus, where a drawing begins, a line where it is held, a cross
     where the column becomes empty."""
     wide = CELL_WIDE * (len(sheet.columns) + 1)
-    paper = Paper(2 * wide + 24, HEAD + HALF * CELL_HIGH + 1, PAPER)
+    canvas = Canvas(2 * wide + 24, HEAD + HALF * CELL_HIGH + 1, GROUND)
     for half in range(2):
         left = half * (wide + 24)
         for number, (column, head) in enumerate(zip(sheet.columns, heads), start=1):
-            paper.put(head, left + number * CELL_WIDE + (CELL_WIDE - head.width) // 2, (HEAD - head.height) // 2)
-            draw_column(paper, sheet, column, left + number * CELL_WIDE, half * HALF)
+            canvas.put(head, left + number * CELL_WIDE + (CELL_WIDE - head.width) // 2, (HEAD - head.height) // 2)
+            draw_column(canvas, sheet, column, left + number * CELL_WIDE, half * HALF)
         for row in range(HALF + 1):
-            paper.fill(left, HEAD + row * CELL_HIGH, left + wide, HEAD + row * CELL_HIGH + 1, LINES)
+            canvas.fill(left, HEAD + row * CELL_HIGH, left + wide, HEAD + row * CELL_HIGH + 1, LINES)
         for row in range(HALF):
-            paper.word(str(half * HALF + row + 1), left + CELL_WIDE // 2, HEAD + row * CELL_HIGH + 4)
-    return paper.picture()
+            canvas.word(str(half * HALF + row + 1), left + CELL_WIDE // 2, HEAD + row * CELL_HIGH + 4)
+    return canvas.picture()
 
 
-def draw_column(paper, sheet, column, left, above):
+def draw_column(canvas, sheet, column, left, above):
     held = {row for begin, end, _ in exposures(column, sheet.rows) for row in range(begin, end + 1)}
     middle = left + CELL_WIDE // 2
-    paper.fill(left, HEAD, left + 1, HEAD + HALF * CELL_HIGH, LINES)
+    canvas.fill(left, HEAD, left + 1, HEAD + HALF * CELL_HIGH, LINES)
     for row in range(above + 1, above + HALF + 1):
         top = HEAD + (row - above - 1) * CELL_HIGH
         if row in column.entries:
             name = column.entries[row]
-            paper.word("x" if name is EMPTY else name if name.isdigit() else "*", middle, top + 4)
+            canvas.word("x" if name is EMPTY else name if name.isdigit() else "*", middle, top + 4)
         elif row in held:
-            paper.fill(middle - 1, top, middle + 1, top + CELL_HIGH, HOLD)
+            canvas.fill(middle - 1, top, middle + 1, top + CELL_HIGH, HOLD)
 
 
 def main(hop, frames, folder):
     os.makedirs(folder, exist_ok=True)
     drawings = drawings_of(hop)
-    drawn = [on_paper(smaller(picture, 3)) for picture in drawings]
+    drawn = [on_ground(smaller(picture, 3)) for picture in drawings]
     pictures.write_png(os.path.join(folder, "drawings.png"), contact_sheet(drawn, 6))
     sheet = xdts.read(os.path.join(hop, "hop.xdts"), lambda line: None)
     heads = [head_of(drawings[number]) for number in (0, 1, 11, 15)]

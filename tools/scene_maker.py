@@ -53,7 +53,8 @@ def words_for(description, sheet):
     words.add_argument("scene", metavar="SCENE.json", help="the level files are written beside it")
     words.add_argument("--camera", nargs=2, type=side, metavar=("W", "H"), help="else that of the largest picture")
     words.add_argument("--cm32", action="store_true", help="flat pictures become ink and paint drawings")
-    words.add_argument("--ink", type=colours, action="append", metavar="RRGGBB[,..]", help="these colours are ink; as --cm32")
+    words.add_argument("--ink", type=colours, action="append", metavar="RRGGBB[,..]",
+                       help="these colours are ink; says --cm32 too")
     words.add_argument("--colour", action="append", default=[], metavar="COLUMN", help="this column stays in colour")
     return words
 

@@ -132,7 +132,7 @@ class Reader:
             self.known("a track", track)
             number = field(track, "trackNo", int, "a track")
             if number < 0 or number in by_number:
-                raise ValueError("there are two tracks %d" % number if number in by_number else "there is a track %d" % number)
+                raise ValueError("there %s %d" % ("are two tracks" if number in by_number else "is a track", number))
             by_number[number] = track
         for number, name in enumerate(names):
             if number not in by_number:

@@ -12,4 +12,5 @@ import scene_maker
 import xdts
 
 if __name__ == "__main__":
-    sys.exit(scene_maker.run(scene_maker.words_for("Makes a scene of a digital time sheet (XDTS).", "SHEET.xdts"), xdts.read))
+    words = scene_maker.words_for("Makes a scene of a digital time sheet (XDTS).", "SHEET.xdts")
+    sys.exit(scene_maker.run(words, xdts.read))

@@ -39,7 +39,9 @@ class Farm(InAFolder):
         return self.run_here(FARM, *words, **{"VAZHETTIN": str(STAND_IN), "HOME": str(self.folder), **more})
 
     def parts(self):
-        return sorted((int(a), int(b), int(w)) for a, b, w in (line.split() for line in (self.folder / "calls").read_text().splitlines()))
+        """The first row, the last row and the workers of each part that was rendered."""
+        lines = (self.folder / "calls").read_text().splitlines()
+        return sorted(tuple(int(number) for number in line.split()) for line in lines)
 
     def frames(self):
         return [name for name in self.files() if name.endswith(".xfr")]

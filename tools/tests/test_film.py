@@ -127,14 +127,16 @@ class Film(InAFolder):
         self.write("a.mp4", "old")
         stand_in = self.write("bin/ffmpeg", "#!/bin/sh\ncat > /dev/null\necho no room >&2\nexit 1\n")
         stand_in.chmod(0o755)
-        self.refused("film: ffmpeg failed: no room", "a", 1, 5, "a.mp4", PATH="%s:%s" % (stand_in.parent, os.environ["PATH"]))
+        path = "%s:%s" % (stand_in.parent, os.environ["PATH"])
+        self.refused("film: ffmpeg failed: no room", "a", 1, 5, "a.mp4", PATH=path)
         self.assertEqual((self.folder / "a.mp4").read_text(), "old")
 
     def test_ffmpeg_is_named_where_it_lacks(self):
         (self.folder / "bin").mkdir()
         for name in ("sh", "dirname", "sed"):
             os.symlink(shutil.which(name), self.folder / "bin" / name)
-        self.refuses("film: ffmpeg is missing: apt-get install ffmpeg", FILM, "a", 1, 5, "a.mp4", PATH=str(self.folder / "bin"))
+        path = str(self.folder / "bin")
+        self.refuses("film: ffmpeg is missing: apt-get install ffmpeg", FILM, "a", 1, 5, "a.mp4", PATH=path)
 
 
 if __name__ == "__main__":
