@@ -15,5 +15,6 @@ command -v sbatch > /dev/null \
 if command -v shellcheck > /dev/null; then
     shellcheck "$here/../vazhettin" "$here"/*.sh "$here"/tests/*.sh "$here/../examples/check.sh" || failed=1
 fi
+python3 -B "$here/gate_times.py" --self-test || failed=1
 (cd "$here/tests" && python3 -B -m unittest "$@") || failed=1
 exit "$failed"
