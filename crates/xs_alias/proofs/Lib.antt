@@ -1,3 +1,4 @@
 pub mod KeyLists
 pub mod Meaning
 pub mod Different
+pub mod LineLists

@@ -1,5 +1,6 @@
 -- The printed line of an alias
-use Rattle.std.specs.Prelude.{ℕ, ℤ, List, ◌++◌, codes, decimal}
+use Rattle.std.specs.Prelude.{◌≡◌, ℕ, ℤ, List, [], ◌∷◌, ◌++◌, map, flat_map, take, codes, decimal}
+use Rattle.std.specs.List.{range_with_len}
 use Rattle.std.specs.Fmt.{signed_decimal}
 use Rattle.xs_scene_text.specs.SceneData.{op_word}
 use Rattle.xs_pixel.specs.Channels.{Channels}
@@ -42,3 +43,20 @@ unfoldable pub alias_line : PlanRecord → ℕ → List ℕ
 alias_line p k =
     let e = entry_at p.entries k in
     line_text k (job_text e.job (input_at e.inputs 0) (input_at e.inputs 1)) (rect_text e.rect) (readers_of p k)
+
+-- the lines of so many aliases from one on
+abbrev pub alias_lines : PlanRecord → (from count : ℕ) → List (List ℕ)
+alias_lines p from count = map (alias_line p) (range_with_len from count)
+
+-- lines one after another, each with its end
+abbrev pub with_ends : List (List ℕ) → List ℕ
+with_ends lines = flat_map (λ line. line ++ 10 ∷ []) lines
+
+-- bytes are a front part of some lines: those of whole lines, and a front part of the next
+pub record IsFront (lines : List (List ℕ)) (bytes : List ℕ) : Type 0 where
+  pub done : List (List ℕ)
+  pub line : List ℕ
+  pub rest : List (List ℕ)
+  pub split : lines ≡ done ++ line ∷ rest
+  pub written : ℕ
+  pub are : bytes ≡ with_ends done ++ take written (line ++ 10 ∷ [])

@@ -1,9 +1,9 @@
 -- What a build gives, from one function to the next
-use Rattle.std.proofs.Common.{◌≡◌, ◌<◌, ℕ, zero, suc, Bool, Result, Ok, Err, IsErrAnd, Some, List, [], ◌∷◌, All, Contains, length, slice_get, refl, sym, ap, ◌∙◌, subst, arith}
+use Rattle.std.proofs.Common.{◌≡◌, ◌<◌, ℕ, zero, suc, Bool, Result, Ok, Err, IfOk, OnOk, IsErrOf, IsErrAnd, Some, List, [], ◌∷◌, All, Contains, length, slice_get, refl, sym, ap, ◌∙◌, subst, arith}
 use Rattle.std.proofs.lemmas.List.Elements.{All-nil, All-cons, All-head, All-tail}
 use Rattle.xs_scene.specs.Records.{SceneRecord}
 use Rattle.xs_meaning.specs.Expressions.{Expr}
-use Rattle.xs_demand.specs.Blocks.{Spread, spread, enter, put}
+use Rattle.xs_demand.specs.Blocks.{Spread, spread, enter, put, Enters}
 use Rattle.xs_demand.proofs.ClosedLists.{enter_old}
 use Rattle.xs_tint.specs.Filters.{dropped_by}
 use Rattle.xs_build.specs.declared.build.Build.{Build}
@@ -11,7 +11,8 @@ use Rattle.xs_build.specs.declared.scope.Scope.{Scope}
 use Rattle.xs_build.specs.declared.state.State.{State}
 use Rattle.xs_build.specs.declared.stop.Stop.{Stop}
 use Rattle.xs_build.specs.declared.stop.Stop.TheVariants.{Full, Memory}
-use Rattle.xs_build.specs.States.{spot_expr, state_expr, dropped_in, offset_of, StandsFor, IsSound, KeepsSets, Grows, Gives, GivesPut}
+use Rattle.xs_build.specs.States.{spot_expr, state_expr, dropped_in, offset_of, StandsFor, IsSound, Grows, Gives, GivesPut, StandsIn}
+use Rattle.xs_stays.specs.Found.{KeepsSets}
 use Rattle.xs_build.proofs.Failing.{failed-as}
 use Rattle.xs_build.proofs.Growing.{Extends, extends-put, longer, put-longer, get-extends}
 
@@ -43,6 +44,7 @@ pub sound-more :
 sound-more s names b l more sound =
     record {
       extents = sound.extents;
+      stays = sound.stays;
       states = all_stand s names b.sets.keys b.entered l b.states.entries more sound.states;
     }
 
@@ -85,9 +87,34 @@ gives-memory at old new e g r failed =
 
 -- ---- answers
 
+ok-map : (r : Result ℕ Stop) (P Q : Type 0) → (P → Q) → OnOk r P → OnOk r Q
+ok-map (Ok n) P Q f p = f p
+ok-map (Err x) P Q f p = tt
+
 pub gives-along :
     (at : Scope) (old new : Build) (d e : Expr) (g : ℕ) (r : Result ℕ Stop) → d ≡ e → Gives at old new d g r → Gives at old new e g r
 gives-along at old new d e g r same = subst (λ (x : Expr). Gives at old new x g r) same
+
+-- what is given for a state that stands for an expression
+pub gives-in_place :
+    (at : Scope) (left : ℕ) (old mid new : Build) (e : Expr) (g : ℕ) (u : State) (r : Result ℕ Stop) → mid.entered ≡ old.entered
+    → KeepsSets old.sets.keys mid.sets.keys → StandsIn at left mid e g u
+    → Gives at mid new (state_expr at.scene.now at.names.now mid.sets.keys u) u.growth r → Gives at old new e g r
+gives-in_place at left old mid new e g u r entered sets stands given =
+    let s = at.scene.now in
+    let names = at.names.now in
+    let given : Gives at mid new e g r =
+    subst (λ (g : ℕ). Gives at mid new e g r) stands.growth
+    (gives-along at mid new (state_expr s names mid.sets.keys u) e u.growth r stands.expr given) in
+    record {
+      entered = subst (λ (l : List Spread). IfOk r (λ n. Enters l new.entered e g n)) entered given.entered;
+      grows =
+          ok-map r (Grows s names at.most mid new) (Grows s names at.most old new)
+          (grows-then s names at.most old mid new
+          (record { sound = stands.may.ask.sound; sets = sets; few = omega (arith, ap length entered) }))
+          given.grows;
+      full = subst (λ (l : List Spread). IsErrOf r Full → at.most < length (enter e g l)) entered given.full;
+    }
 
 contains-get : (l : List Spread) (n : ℕ) (x : Spread) → slice_get l n ≡ Some x → Contains l x
 contains-get [] n x is = cc

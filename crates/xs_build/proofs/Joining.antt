@@ -13,7 +13,8 @@ use Rattle.xs_build.specs.declared.build.Build.{Build}
 use Rattle.xs_build.specs.declared.scope.Scope.{Scope}
 use Rattle.xs_build.specs.declared.stop.Stop.{Stop}
 use Rattle.xs_build.specs.Stacks.{stacked, seen_down, enter_each, put_over}
-use Rattle.xs_build.specs.States.{expr_at, KeepsSets, Grows, Gives, GivesPut, LaysOver}
+use Rattle.xs_build.specs.States.{expr_at, Grows, Gives, GivesPut, LaysOver}
+use Rattle.xs_stays.specs.Found.{KeepsSets}
 use Rattle.xs_build.proofs.Giving.{gives-final, grows-then, sound-more}
 use Rattle.xs_build.proofs.Growing.{Extends, extends-put, extends-enter, extends-put_over, longer, get-extends, expr-is}
 use Rattle.xs_build.proofs.StackLemmas.{enter-stacked, stacked-laid_over}

@@ -10,3 +10,4 @@ pub mod Stepping
 pub mod Joining
 pub mod Leaves
 pub mod Roots
+pub mod NormalForms

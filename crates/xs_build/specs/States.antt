@@ -20,6 +20,9 @@ use Rattle.xs_demand.specs.Blocks.{Spread, spread, enter, put, Enters}
 use Rattle.xs_demand.specs.Renamed.{renamed}
 use Rattle.xs_entered.specs.Entered.{spread_at}
 use Rattle.xs_extent.specs.Extent.{AreRight}
+use Rattle.xs_stays.specs.Found.{KeepsSets}
+use Rattle.xs_stays.specs.Found as stays
+use Rattle.xs_stays.specs.Stays.{stay_at, stay_or, IsNormal}
 use Rattle.xs_build.specs.declared.build.Build.{Build}
 use Rattle.xs_build.specs.declared.scope.Scope.{Scope}
 use Rattle.xs_build.specs.declared.state.State.{State}
@@ -78,12 +81,8 @@ pub record StandsFor (s : SceneRecord) (names : List ℕ) (sets : List (List Boo
 -- what is remembered is so
 pub record IsSound (s : SceneRecord) (names : List ℕ) (b : Build) : Type 0 where
   pub extents : AreRight s b.extents
+  pub stays : stays.AreRight s b.stays
   pub states : All (λ e. StandsFor s names b.sets.keys b.entered e.0 e.1) b.states.entries
-
--- sets of dropped styles keep their numbers
-pub record KeepsSets (old new : List (List Bool)) : Type 0 where
-  pub more : length old ≤ length new
-  pub same : (k : ℕ) → k < length old → slice_index_or new k [] ≡ slice_index_or old k []
 
 -- a build after more was entered, with at most one expression more than there may be
 pub record Grows (s : SceneRecord) (names : List ℕ) (most : ℕ) (old new : Build) : Type 0 where
@@ -117,6 +116,21 @@ pub record MayAsk (at : Scope) (left : ℕ) (t : State) (b : Build) : Type 0 whe
 pub record MayEnter (at : Scope) (left : ℕ) (t : State) (b : Build) : Type 0 where
   pub ask : MayAsk at left t b
   pub seen : is_clear (state_expr at.scene.now at.names.now b.sets.keys t) ≡ false
+
+-- no offset is told where no drawing stays, and no dropped style that doesn't count
+abbrev pub IsInNormalForm : SceneRecord → List (List Bool) → State → Type 0
+IsInNormalForm s sets t = IsNormal (stay_or (stay_at s t.spot)) (dropped_in sets t.dropped) (offset_of t)
+
+-- different numbers stand for different sets of dropped styles
+abbrev pub AreApart : List (List Bool) → Type 0
+AreApart sets = (j k : ℕ) → j < length sets → k < length sets → dropped_in sets j ≡ dropped_in sets k → j ≡ k
+
+-- a state that may be entered for an expression and a growth, and is in normal form
+pub record StandsIn (at : Scope) (left : ℕ) (b : Build) (e : Expr) (g : ℕ) (t : State) : Type 0 where
+  pub may : MayEnter at left t b
+  pub expr : state_expr at.scene.now at.names.now b.sets.keys t ≡ e
+  pub growth : t.growth ≡ g
+  pub normal : IsInNormalForm at.scene.now b.sets.keys t
 
 pub record MayStep (at : Scope) (left : ℕ) (t : State) (step : Step) (b : Build) : Type 0 where
   pub ask : MayAsk at left t b

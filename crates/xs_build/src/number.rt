@@ -16,6 +16,7 @@ ghost use Rattle.xs_build.specs.States.{named, spot_expr, state_expr, stepped_ex
 
 use crate::build::Build;
 use crate::drawing::put_drawing;
+use crate::normal::{filtered, normal};
 use crate::pairs::{Stays, staying};
 use crate::put::{put_blur, put_card, put_clear, put_each_over, put_pair};
 use crate::scope::Scope;
@@ -27,7 +28,7 @@ use xs_extent::laws::extents_know_neither_offset_nor_filters;
 use xs_pixel::{Op, Style};
 use xs_step::{Spot, Step, Styles, Terminals, input, step_at};
 
-/// The number of a state, which is remembered. The ways from its spot have at most `left` spots.
+/// The number of a state: that of its normal form. The ways from its spot have at most `left` spots.
 #[cycle(number)]
 pub(crate) fn number(
     at: &Scope<'_>,
@@ -35,6 +36,17 @@ pub(crate) fn number(
     state: State,
     build: &mut Build,
 ) -> Result<u32, Stop>
+    requires { MayEnter at.now left state build.old }
+    ensures { Gives at.now build.old build.new
+        (state_expr at.now.scene.now at.now.names.now build.old.sets.keys state) state.growth result }
+{
+    let state = normal(at, left, state, build)?;
+    number_normal(at, left, state, build)
+}
+
+/// The number of a state in normal form, which is remembered.
+#[cycle(number)]
+fn number_normal(at: &Scope<'_>, left: u32, state: State, build: &mut Build) -> Result<u32, Stop>
     requires { MayEnter at.now left state build.old }
     ensures { Gives at.now build.old build.new
         (state_expr at.now.scene.now at.now.names.now build.old.sets.keys state) state.growth result }
@@ -99,8 +111,8 @@ fn number_drawing(at: &Scope<'_>, state: State, d: u32, build: &mut Build) -> Re
         (leaf_by (colours_of at.now.scene.now d) d state.spot.row (dropped_in build.old.sets.keys state.dropped) (offset_of state)))
         state.growth result }
 {
-    let dropped = &build.sets.as_slice()[state.dropped as usize];
-    put_drawing(at, state, d, dropped, &mut build.entered)
+    let dropped = build.sets.as_slice()[state.dropped as usize].as_dropped(at.alloc)?;
+    put_drawing(at, state, d, &dropped, &mut build.entered)
 }
 
 /// The number of a card.
@@ -129,8 +141,8 @@ fn number_filtered(
     ensures { Gives at.now build.old build.new (spot_expr at.now.scene.now at.now.names.now state.spot
         (filtering keep styles.entry (dropped_in build.old.sets.keys state.dropped)) (offset_of state)) state.growth result }
 {
-    let dropped = build.dropping(at.alloc, state.dropped, keep, styles.items())?;
-    number(at, left, state.under(dropped), build)
+    let state = filtered(at, left, state, keep, styles.items(), build)?;
+    number(at, left, state, build)
 }
 
 /// The number of the blur of a spot.

@@ -1,4 +1,4 @@
-ghost use Rattle.std.specs.Prelude.{◌≡◌, ◌<◌, ◌^◌, ◌+ℤ◌, ◌*◌, ◌+◌};
+ghost use Rattle.std.specs.Prelude.{◌≡◌, pos, ◌<◌, ◌^◌, ◌+ℤ◌, ◌*◌, ◌+◌};
 ghost use Rattle.xs_base.specs.declared.limits.TheConstants.{DEEPEST_NEST, FARTHEST_PLACE};
 ghost use Rattle.xs_pixel.specs.Points.{point};
 ghost use Rattle.xs_meaning.specs.Bounds.{IsWithin};
@@ -22,6 +22,13 @@ impl State {
         ensures { result ≡ record self { spot = spot } }
     {
         State { spot, ..self }
+    }
+
+    /// Under no offset.
+    pub(crate) fn still(self) -> State
+        ensures { result ≡ record self { x = pos 0; y = pos 0 } }
+    {
+        State { x: 0, y: 0, ..self }
     }
 
     /// Under another set of dropped styles.

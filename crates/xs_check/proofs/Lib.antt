@@ -14,3 +14,4 @@ mod Only
 mod Telling
 mod Clear
 mod Tells
+mod Existing

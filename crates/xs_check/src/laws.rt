@@ -1,5 +1,5 @@
 //! Laws of checking.
-ghost use Rattle.std.specs.Prelude.{◌≡◌, ◌↔◌, ◌<◌, ℕ, true, Option, None, Some, [], ◌∷◌, length};
+ghost use Rattle.std.specs.Prelude.{◌≡◌, ◌↔◌, ◌<◌, ℕ, true, Option, None, Some, [], ◌∷◌, All, length};
 ghost use Rattle.std.specs.Prelude.{List as Items};
 ghost use Rattle.xs_fault.specs.declared.code.SceneCode.{SceneCode};
 ghost use Rattle.xs_fault.specs.declared.fault.SceneFault.{SceneFault};
@@ -10,8 +10,9 @@ ghost use Rattle.xs_scene.specs.declared.node.Node.TheVariants.{Shuffle};
 ghost use Rattle.xs_pixel.specs.declared.style.Style.{Style};
 ghost use Rattle.xs_base.specs.declared.limits.TheConstants.{MOST_STYLES, MOST_STYLE_KEYS, LONGEST_SHUFFLE, MOST_COLUMNS, MOST_NODES, MOST_TERMINALS};
 ghost use Rattle.xs_meaning.specs.Ends.{AllEnd};
+ghost use Rattle.xs_meaning.specs.Expressions.{drawings_of, root_of};
 ghost use Rattle.xs_check.specs.Codes.{is_of_checking};
-ghost use Rattle.xs_check.specs.Good.{IsGood};
+ghost use Rattle.xs_check.specs.Good.{IsGood, files_of};
 ghost use Rattle.xs_check.specs.Passes.{Checking, first_fault};
 ghost use Rattle.xs_check.specs.Told.{Tells, HasNoFault, IsFirstFault, palette_path, level_path, sheet_path, peg_path, column_path, cell_path, node_path};
 ghost use Rattle.xs_check.specs.Samples.{naming, standing, listing};
@@ -49,6 +50,11 @@ pub fn scenes_without_a_fault_are_good()
     chains_are_told_link_by_link();
     chains_without_a_cycle_are_short();
 }
+
+/// The drawings of a row of a good scene are drawings of its levels.
+pub fn drawings_of_rows_are_there()
+    ensures { (s : SceneRecord) → IsGood s → (row : ℕ) → All (λ d. d < length (files_of s.levels)) (drawings_of (root_of s row)) }
+{}
 
 /// Each code is told exactly where its own fault is the first that is looked for: what is told is wrong at its
 /// path, and nothing is that is looked for before.

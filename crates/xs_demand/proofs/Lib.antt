@@ -30,3 +30,4 @@ pub mod RenamedFit
 pub mod RowFacts
 pub mod RootFits
 pub mod ShownJobs
+pub mod OwnNames

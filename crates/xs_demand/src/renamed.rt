@@ -1,6 +1,6 @@
 //! Laws of expressions whose drawings have other numbers.
 
-ghost use Rattle.std.specs.Prelude.{◌≡◌, ℕ, List, All, map};
+ghost use Rattle.std.specs.Prelude.{◌≡◌, ◌<◌, ℕ, List, All, map};
 ghost use Rattle.xs_pixel.specs.Picture.{Pictures};
 ghost use Rattle.xs_pixel.specs.Points.{Point};
 ghost use Rattle.xs_rect.specs.Area.{Area};
@@ -29,4 +29,10 @@ pub fn renamed_roots_have_the_renamed_aliases()
     ensures { (count : ℕ) (names : ℕ → ℕ) → AreDistinct count names → (tiles : List Area) (roots : List Expr)
         → All (HasBelow count) roots
         → aliases_of tiles (map (renamed names) roots) ≡ map (renamed_alias names) (aliases_of tiles roots) }
+{}
+
+/// An expression stays as it is where each of its drawings is named by its own number.
+pub fn own_names_change_no_expression()
+    ensures { (count : ℕ) (names : ℕ → ℕ) → ((d : ℕ) → d < count → names d ≡ d) → (e : Expr) → HasBelow count e
+        → renamed names e ≡ e }
 {}

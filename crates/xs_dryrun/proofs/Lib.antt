@@ -10,6 +10,8 @@ pub mod AddRow
 pub mod Wholes
 pub mod Frames
 pub mod TryRow
-pub mod Existing
 pub mod NextRow
 pub mod MoreRows
+pub mod RootNumbers
+pub mod NeededBelow
+pub mod Planners

@@ -17,7 +17,7 @@ use Rattle.xs_dryrun.specs.declared.limits.What.{What}
 use Rattle.xs_dryrun.specs.declared.limits.PlanFault.{PlanFault}
 use Rattle.xs_dryrun.specs.declared.limits.PlanFault.TheVariants.{Limit as Told}
 use Rattle.xs_dryrun.specs.Passing.{what_of}
-use Rattle.xs_dryrun.specs.Planned.{Planned}
+use Rattle.xs_dryrun.specs.Planned.{Planned, AreRoots}
 use Rattle.xs_dryrun.specs.Trying.{MayFollow, TriesRoot}
 use Rattle.xs_dryrun.specs.Adding.{root_under, roots_under, MayAdd, AddsRows, TriesRows}
 
@@ -68,7 +68,7 @@ err_of : (r : Result (Unit {0}) PlanFault) → is_err r ≡ true → (fault : Pl
 err_of (Ok x) wrong = absurd (true≢false (sym wrong))
 err_of (Err fault) is = (fault, refl)
 
-ok_of : (r : Result (Unit {0}) PlanFault) (P : Type 0) → is_err r ≡ false → OnOk r P → P
+pub ok_of : (r : Result (Unit {0}) PlanFault) (P : Type 0) → is_err r ≡ false → OnOk r P → P
 ok_of (Ok x) P is p = p
 ok_of (Err fault) P wrong p = absurd (true≢false wrong)
 
@@ -108,6 +108,7 @@ module _ (s : SceneRecord) (names : List ℕ) (from : ℕ) where
               let same : roots ≡ roots ++ roots_under s names from 0 = sym (append-nil roots) in (
                 subst (λ (l : List Expr). Planned drawings l old.build.entered old.rows old.builder) same may.planned,
                 subst (λ (l : List Expr). first_limit old.builder.plan.tiles l ≡ None) same may.none,
+                subst (λ (l : List Expr). AreRoots old.build.entered old.roots.items l) same may.held,
               );
         }
 
@@ -139,8 +140,10 @@ module _ (s : SceneRecord) (names : List ℕ) (from : ℕ) where
         → ((drawings : ℕ) (roots : List Expr) → MayFollow drawings roots names (place + n) mid.build.entered mid.rows mid.builder
         → Planned drawings (roots ++ root_under s names (from + n) ∷ []) new.build.entered new.rows new.builder
         × (first_limit mid.builder.plan.tiles (roots ++ root_under s names (from + n) ∷ []) ≡ None))
+        → ((earlier : List Expr) → AreRoots mid.build.entered mid.roots.items earlier
+        → AreRoots new.build.entered new.roots.items (earlier ++ root_under s names (from + n) ∷ []))
         → AddsRows s names from place count (n + 1) old new
-    one_added n mid new below so_far tiles room many adds =
+    one_added n mid new below so_far tiles room many adds held =
         record {
           tiles = tiles ∙ so_far.tiles;
           room = room ∙ so_far.room;
@@ -151,6 +154,8 @@ module _ (s : SceneRecord) (names : List ℕ) (from : ℕ) where
                 subst (λ (l : List Expr). first_limit old.builder.plan.tiles l ≡ None) (behind_one_more roots n)
                     (subst (λ (l : List Area). first_limit l ((roots ++ roots_under s names from n) ++ root_under s names (from + n) ∷ []) ≡ None)
                     so_far.tiles has.1),
+                subst (λ (l : List Expr). AreRoots new.build.entered new.roots.items l) (behind_one_more roots n)
+                    (held (roots ++ roots_under s names from n) (so_far.adds drawings roots may).2),
               );
         }
 
@@ -199,12 +204,14 @@ module _ (s : SceneRecord) (names : List ℕ) (from : ℕ) where
         (n : ℕ) (mid new : Underway) (r : Result (Unit {0}) PlanFault) → is_err r ≡ false → n < count → AddsRows s names from place count n old mid
         → OnOk r (new.rows.tiles ≡ mid.rows.tiles) → OnOk r (new.builder.plan.tiles ≡ mid.builder.plan.tiles)
         → OnOk r (new.builder.rows ≡ mid.builder.rows)
+        → OnOk r ((earlier : List Expr) → AreRoots mid.build.entered mid.roots.items earlier
+        → AreRoots new.build.entered new.roots.items (earlier ++ root_under s names (from + n) ∷ []))
         → TriesRoot mid.builder new.builder mid.rows new.rows mid.build.entered new.build.entered names (place + n)
         (root_under s names (from + n)) r
         → AddsRows s names from place count (n + 1) old new
-    row_added n mid new r added below so_far many tiles room tries =
+    row_added n mid new r added below so_far many tiles room held tries =
         one_added n mid new below so_far (ok_of r _ added tiles) (ok_of r _ added room) (ok_of r _ added many)
-        (ok_of r _ added tries.planned)
+        (ok_of r _ added tries.planned) (ok_of r _ added held)
 
     -- rows of this scene or another may follow them
     pub may_add_more :
@@ -218,6 +225,7 @@ module _ (s : SceneRecord) (names : List ℕ) (from : ℕ) where
         record {
           planned = has.0;
           none = subst (λ (l : List Area). first_limit l (roots ++ roots_under s names from count) ≡ None) (sym whole.tiles) has.1;
+          held = has.2;
           named = named;
           behind =
               omega (
@@ -236,12 +244,13 @@ no_limit_yet areas = refl
 -- any rows may be the first
 pub may_begin :
     (tiles : List Area) (rows : ℕ) (u : Underway) → u.builder ≡ empty_draft tiles rows → u.build.entered ≡ []
-    → ((drawings : ℕ) → Planned drawings [] [] u.rows u.builder) → (drawings : ℕ) (names : List ℕ) (count : ℕ)
+    → u.roots.items ≡ [] → ((drawings : ℕ) → Planned drawings [] [] u.rows u.builder) → (drawings : ℕ) (names : List ℕ) (count : ℕ)
     → All (λ name. name < drawings) names → count ≤ rows → MayAdd drawings [] names 0 count u
-may_begin tiles rows u is none_entered planned drawings names count named few =
+may_begin tiles rows u is none_entered no_root planned drawings names count named few =
     record {
       planned = subst (λ (l : List Spread). Planned drawings [] l u.rows u.builder) (sym none_entered) (planned drawings);
       none = no_limit_yet u.builder.plan.tiles;
+      held = subst (λ (l : List ℕ). AreRoots u.build.entered l []) (sym no_root) (record { there = λ k n here. absurd (omega arith); are = refl });
       named = named;
       behind = refl;
       room = omega (arith, few, ap (λ (d : Draft). d.rows) is);

@@ -12,7 +12,7 @@ use Rattle.xs_dryrun.specs.declared.limits.What.{What}
 use Rattle.xs_dryrun.specs.declared.limits.PlanFault.{PlanFault}
 use Rattle.xs_dryrun.specs.declared.limits.PlanFault.TheVariants.{Limit}
 use Rattle.xs_dryrun.specs.Passing.{what_of, greatest_of}
-use Rattle.xs_dryrun.specs.Planned.{Planned}
+use Rattle.xs_dryrun.specs.Planned.{Planned, AreRoots}
 
 -- the root of a row of a scene, with drawings under these names
 abbrev pub root_under : SceneRecord → List ℕ → ℕ → Expr
@@ -27,6 +27,7 @@ roots_under s names from count = map (root_under s names) (range_with_len from c
 pub record MayAdd (drawings : ℕ) (roots : List Expr) (names : List ℕ) (place count : ℕ) (u : Underway) : Type 0 where
   pub planned : Planned drawings roots u.build.entered u.rows u.builder
   pub none : first_limit u.builder.plan.tiles roots ≡ None
+  pub held : AreRoots u.build.entered u.roots.items roots
   pub named : All (λ name. name < drawings) names
   pub behind : place ≡ length roots
   pub room : place + count ≤ u.builder.rows
@@ -39,6 +40,7 @@ pub record AddsRows (s : SceneRecord) (names : List ℕ) (from place count done 
   pub adds : (drawings : ℕ) (roots : List Expr) → MayAdd drawings roots names place count old
       → Planned drawings (roots ++ roots_under s names from done) new.build.entered new.rows new.builder
       × (first_limit old.builder.plan.tiles (roots ++ roots_under s names from done) ≡ None)
+      × AreRoots new.build.entered new.roots.items (roots ++ roots_under s names from done)
 
 -- all were added, or a limit is passed
 pub record TriesRows (s : SceneRecord) (names : List ℕ) (from place count : ℕ) (old new : Underway) (r : Result (Unit {0}) PlanFault) : Type 0 where

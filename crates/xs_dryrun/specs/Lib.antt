@@ -6,3 +6,4 @@ pub mod Row
 pub mod Planned
 pub mod Trying
 pub mod Adding
+pub mod Planning

@@ -1,5 +1,5 @@
 -- A plan of the rows so far
-use Rattle.std.specs.Prelude.{◌≡◌, ◌<◌, ◌≤◌, ◌*◌, ℕ, Some, None, Result, Err, OnOk, List, [], ◌∷◌, ◌++◌, All, length, slice_get}
+use Rattle.std.specs.Prelude.{◌≡◌, ◌<◌, ◌≤◌, ◌*◌, ℕ, Some, None, Result, Err, OnOk, List, [], ◌∷◌, ◌++◌, All, length, map, slice_get}
 use Rattle.std.specs.List.{AllZip}
 use Rattle.std.specs.Option.{option_map}
 use Rattle.xs_meaning.specs.Expressions.{Expr, reach_of}
@@ -10,6 +10,7 @@ use Rattle.xs_demand.specs.Blocks.{Spread, spread, enter}
 use Rattle.xs_demand.specs.Fit.{IsFit}
 use Rattle.xs_demand.specs.Limits.{first_limit}
 use Rattle.xs_demand.specs.Shown.{StandsAt, ends_of, root_aliases}
+use Rattle.xs_build.specs.States.{expr_at}
 use Rattle.xs_dryrun.specs.declared.rows.Rows.{Rows}
 use Rattle.xs_dryrun.specs.declared.limits.Counts.{Counts}
 use Rattle.xs_dryrun.specs.declared.limits.What.{What}
@@ -29,6 +30,11 @@ pub record Planned (drawings : ℕ) (roots : List Expr) (l : List Spread) (rows 
   pub rooted : d.rooted ≡ length d.plan.entries
   pub given : AllZip (StandsAt (aliases_of d.plan.tiles roots)) (root_aliases d.plan.tiles roots) d.plan.roots
   pub ends : d.plan.ends ≡ ends_of d.plan.tiles roots []
+
+-- numbers of expressions that were entered tell the roots of rows
+pub record AreRoots (l : List Spread) (numbers : List ℕ) (roots : List Expr) : Type 0 where
+  pub there : All (λ n. n < length l) numbers
+  pub are : map (expr_at l) numbers ≡ roots
 
 -- only tints were added
 abbrev pub AddsTints : Draft → Draft → Type 0

@@ -4,8 +4,12 @@
 mod fill;
 mod limits;
 mod next;
+mod planner;
+mod range;
 mod row;
 mod rows;
 mod whole;
 
 pub use limits::{PlanFault, What};
+pub use planner::Planner;
+pub use range::plan;

@@ -1,6 +1,6 @@
 //! The next row of a scene.
 
-ghost use Rattle.std.specs.Prelude.{◌≡◌, ◌<◌, ◌≤◌, ◌+◌, ◌*◌, ◌^◌, ◌++◌, ℕ, List, [], All, IfOk, OnOk, length};
+ghost use Rattle.std.specs.Prelude.{◌≡◌, ◌<◌, ◌≤◌, ◌+◌, ◌*◌, ◌^◌, ◌++◌, ◌∷◌, ℕ, List, [], All, IfOk, OnOk, length};
 ghost use Rattle.xs_check.specs.Good.{files_of};
 ghost use Rattle.xs_meaning.specs.Expressions.{Expr, root_of};
 ghost use Rattle.xs_plan.specs.declared.limits.TheConstants.{MOST_ALIASES as MOST, MOST_ROWS, MOST_TILES};
@@ -9,6 +9,7 @@ ghost use Rattle.xs_build.specs.States.{named};
 ghost use Rattle.xs_dryrun.specs.declared.limits.PlanFault.TheVariants.{Limit};
 ghost use Rattle.xs_dryrun.specs.Filling.{IsFrame};
 ghost use Rattle.xs_dryrun.specs.Passing.{greatest_of};
+ghost use Rattle.xs_dryrun.specs.Planned.{AreRoots};
 ghost use Rattle.xs_dryrun.specs.Trying.{MayFollow, TriesRoot};
 ghost use Rattle.xs_dryrun.specs.Adding.{roots_under, MayAdd, TriesRows};
 
@@ -20,6 +21,7 @@ use std::alloc::Global;
 use xs_base::Memory;
 use xs_build::{Build, Stop, reach};
 use xs_check::GoodScene;
+use xs_check::laws::drawings_of_rows_are_there;
 use xs_demand::fit::{renaming_keeps_fit, the_roots_of_rows_are_fit};
 use xs_demand::renamed::names_of_drawings_change_no_image;
 use xs_plan::Builder;
@@ -27,10 +29,13 @@ use xs_plan::limits::{FARTHEST_REACH, MOST_ALIASES};
 use xs_rect::Rect;
 
 /// The plan of the rows so far, which is being built, and what they have entered.
+#[derive(Drop)]
 pub(crate) struct Underway {
     pub(crate) builder: Builder,
     pub(crate) build: Build,
     pub(crate) rows: Rows,
+    // the numbers of the rows' roots among what was entered
+    pub(crate) roots: Vec<u32>,
 }
 
 /// No row is added yet to the plan of so many rows on these tiles; any of them may be the first.
@@ -51,6 +56,7 @@ pub(crate) fn begin(alloc: Global, tiles: Vec<Rect>, rows: u32) -> Result<Underw
         builder,
         build: Build::new(alloc)?,
         rows: numbers,
+        roots: Vec::new(alloc),
     })
 }
 
@@ -85,11 +91,14 @@ pub(crate) fn add_next_row(
     ensures rows { OnOk result (way.new.rows.tiles ≡ way.old.rows.tiles) }
     ensures tiles { OnOk result (way.new.builder.plan.tiles ≡ way.old.builder.plan.tiles) }
     ensures room { OnOk result (way.new.builder.rows ≡ way.old.builder.rows) }
+    ensures held { OnOk result ((earlier : List Expr) → AreRoots way.old.build.entered way.old.roots.items earlier
+        → AreRoots way.new.build.entered way.new.roots.items (earlier ++ renamed (named names.now) (root_of s.now row) ∷ [])) }
     ensures tries { TriesRoot way.old.builder way.new.builder way.old.rows way.new.rows way.old.build.entered
         way.new.build.entered names.now place (renamed (named names.now) (root_of s.now row)) result }
 {
     // a checked scene has fit roots, which stay fit and look as far under other names
     s.scene();
+    drawings_of_rows_are_there();
     the_roots_of_rows_are_fit();
     renaming_keeps_fit();
     names_of_drawings_change_no_image();
@@ -106,22 +115,34 @@ pub(crate) fn add_next_row(
         builder,
         build,
         rows,
+        roots,
     } = way;
     match build.root(alloc, s, names, row, most) {
-        Ok(root) => try_row(
-            builder,
-            alloc,
-            build.entered(),
-            rows,
-            was,
-            place,
-            tints,
-            root,
-            tiles,
-        ),
+        Ok(root) => {
+            keep_root(roots, root)?;
+            try_row(
+                builder,
+                alloc,
+                build.entered(),
+                rows,
+                was,
+                place,
+                tints,
+                root,
+                tiles,
+            )
+        }
         Err(Stop::Full) => Err(too_much(What::Aliases)),
         Err(Stop::Memory) => Err(PlanFault::Memory),
     }
+}
+
+/// Puts the number of a root last.
+fn keep_root(roots: &mut Vec<u32>, root: u32) -> Result<(), Memory>
+    ensures { OnOk result (roots.new.items ≡ roots.old.items ++ root ∷ []) }
+{
+    roots.push(root)?;
+    Ok(())
 }
 
 /// Adds so many rows from `from` on of a scene with drawings under these names; they follow `place` others.

@@ -4,7 +4,7 @@ ghost use Rattle.std.specs.Prelude.{◌≡◌, ◌<◌, ◌≤◌, ◌^◌, ℕ,
 ghost use Rattle.xs_base.specs.declared.limits.TheConstants.{LONGEST_CAMERA_SIDE};
 ghost use Rattle.xs_rect.specs.Tiles.{tile_areas};
 ghost use Rattle.xs_meaning.specs.Expressions.{Expr};
-ghost use Rattle.xs_plan.specs.Draft.{AreLast, empty_draft};
+ghost use Rattle.xs_plan.specs.Draft.{empty_draft};
 ghost use Rattle.xs_plan.specs.declared.limits.TheConstants.{MOST_ROWS, MOST_TILES};
 ghost use Rattle.xs_demand.specs.Blocks.{Spread};
 ghost use Rattle.xs_demand.specs.Shown.{ShowsRoots};
@@ -15,6 +15,8 @@ ghost use Rattle.xs_dryrun.specs.Planned.{Planned};
 use crate::rows::Rows;
 use std::alloc::Global;
 use xs_base::Memory;
+use xs_demand::aliases::visits_add_what_they_reach;
+use xs_demand::shown::shown_jobs_ask_for_their_inputs;
 use xs_plan::{Builder, Plan};
 use xs_rect::{Rect, tiles};
 
@@ -34,17 +36,17 @@ pub(crate) fn start(alloc: Global, tiles: Vec<Rect>, rows: u32) -> Result<(Build
     Ok((builder, Rows::new(alloc, count)))
 }
 
-/// The plan, where all its rows were added. The list tells of each drawing the last section that needs it.
-pub(crate) fn finish(builder: Builder, last: Vec<Option<u32>>) -> Result<Plan, Memory>
-    requires planned { (drawings : ℕ) × (roots : List Expr) × (l : List Spread) × (rows : RowNumbers)
+/// The plan, where all its rows were added and there are so many drawings.
+pub(crate) fn finish(builder: Builder, drawings: u32) -> Result<Plan, Memory>
+    requires planned { (roots : List Expr) × (l : List Spread) × (rows : RowNumbers)
         × Planned drawings roots l rows builder × (length roots ≡ builder.rows) }
-    requires last { AreLast builder.plan last.items }
-    requires few_drawings { length last.items < 2 ^ 32 }
-    ensures drawings { IfOk result (λ p. p.drawings ≡ length last.items) }
-    ensures shows { IfOk result (λ p. (drawings : ℕ) (roots : List Expr) (l : List Spread) (rows : RowNumbers)
+    ensures drawings { IfOk result (λ p. p.drawings ≡ drawings) }
+    ensures shows { IfOk result (λ p. (roots : List Expr) (l : List Spread) (rows : RowNumbers)
         → Planned drawings roots l rows builder → ShowsRoots builder.plan.tiles roots p) }
 {
-    builder.finish(last)
+    visits_add_what_they_reach();
+    shown_jobs_ask_for_their_inputs();
+    builder.finish(drawings)
 }
 
 /// The tiles of a frame of `w` by `h` points.

@@ -7,3 +7,4 @@ pub mod EdgeLemmas
 pub mod FirstRowLemmas
 pub mod HeldLemmas
 pub mod LiveLemmas
+pub mod LastLemmas

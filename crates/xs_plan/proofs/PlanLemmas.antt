@@ -1,8 +1,8 @@
 -- Lemmas on finished plans
 use Rattle.std.proofs.Common.{◌≡◌, ◌<◌, ◌≤◌, ◌+◌, ◌-◌, ◌*◌, ◌/◌, ◌%◌, ◌^◌, ℕ, zero, suc, Bool, true, cond, eqb, ltb, List, [], ◌∷◌, ◌++◌, Option, Some, None, IfSome, All, Contains, length, reverse, slice_get, slice_index, get_or, count_by, refl, sym, ap, ◌∙◌, subst, ⊎_elim, arith, zero-add}
 use Rattle.std.specs.List.{filter, filter_map, cons_option, find, range_with_len}
-use Rattle.std.proofs.lemmas.Bool.{cases_lt, cases_Bool, lt-ltb, le-ltb, eq-eqb, or_right, or_left}
-use Rattle.std.proofs.lemmas.List.{take_all, get_or_default, get_or_past, get_or-reverse, length-reverse}
+use Rattle.std.proofs.lemmas.Bool.{cases_Bool, lt-ltb, le-ltb, eq-eqb, or_right, or_left}
+use Rattle.std.proofs.lemmas.List.{take_all, get_or-reverse, length-reverse}
 use Rattle.std.proofs.lemmas.List.Elements.{Contains-append_left, Contains-append_right, Contains-get_or}
 use Rattle.std.proofs.lemmas.List.FromFn.{length-range_with_len, get_or-range_with_len}
 use Rattle.std.proofs.lemmas.List.Sums.{get_or-le-sum_by}
@@ -10,13 +10,13 @@ use Rattle.std.proofs.lemmas.Nat.{mul-add-lt, div_below, div-add-mod', div-mul-a
 use Rattle.std.proofs.Math.Nat.{mul-div_cancel}
 use Rattle.xs_base.specs.Listed.{is_listed}
 use Rattle.xs_base.specs.Once.{each_once}
-use Rattle.xs_plan.specs.Record.{Entry, PlanRecord, entry_at, no_entry, drawing_of, rows_in}
+use Rattle.xs_plan.specs.Record.{Entry, PlanRecord, entry_at, drawing_of, rows_in}
 use Rattle.xs_plan.specs.Reads.{port_sources, readers_of}
 use Rattle.xs_plan.specs.Sections.{first_row, first_section, sections_in}
 use Rattle.xs_plan.specs.Needed.{drawings_where, needs, needs_before, last_section_of}
 use Rattle.xs_plan.specs.Valid.{IsPlan, IsRoot, Leads, Reaches, RowReaches}
 use Rattle.xs_plan.specs.Draft.{Draft, HasRoots, AreLast, finished}
-use Rattle.xs_plan.specs.Kept.{IsDraft, IsStart, AreStarts, AreFirsts, AreNews, IsKept, drawings_in}
+use Rattle.xs_plan.specs.Kept.{IsDraft, IsStart, AreStarts, AreFirsts, AreNews, TellFirsts, IsKept, drawings_in}
 use Rattle.xs_plan.proofs.RowLemmas.{AreEnds-more}
 use Rattle.xs_plan.proofs.NeedLemmas.{first_section-rises, drawings_where-first}
 
@@ -85,19 +85,6 @@ last_section-needed p s d lt needed none =
     find-hit (λ s. is_listed (needs p s) d) (reverse sections) (sections_in p - 1 - s) 0
     (omega (arith, length-reverse sections))
     (ap (λ n. is_listed (needs p n) d) here ∙ needed) none
-
--- so it is one of a list that tells of each
-pub drawing-told :
-    (p : PlanRecord) (last : List (Option ℕ)) → AreLast p last → (k d : ℕ) → k < length p.entries → first_section p k < sections_in p
-    → drawing_of (entry_at p.entries k).job ≡ Some d → d < length last
-drawing-told p last are k d lt below gives =
-    ⊎_elim (λ short. short)
-    (λ past.
-    absurd
-    (last_section-needed p (first_section p k) d below
-    (drawings_where-has p (λ t. eqb t (first_section p k)) k d lt (eq-eqb (first_section p k) (first_section p k) refl) gives)
-    (sym (are d) ∙ get_or_past last d None past)))
-    (cases_lt d (length last))
 
 -- ---- each alias is read
 
@@ -192,24 +179,15 @@ module _ {d : Draft} {firsts : List ℕ} (draft : IsDraft d firsts) (has : HasRo
         rect = ap (λ t. slice_get d.plan.tiles t) (sym at_tile) ∙ was.rect;
       }
 
-  pub needed-below : (last : List (Option ℕ)) → AreLast d.plan last → All (λ e. IfSome (drawing_of e.job) (λ x. x < length last)) d.plan.entries
-  needed-below last are k e lt =
-      needed (drawing_of (get_or d.plan.entries k e).job) refl
-    where
-      needed : (o : Option ℕ) → drawing_of (get_or d.plan.entries k e).job ≡ o → IfSome o (λ x. x < length last)
-      needed None is = tt
-      needed (Some x) is =
-          drawing-told d.plan last are k x lt (first_section-below k lt)
-          (ap (λ (y : Entry). drawing_of y.job) (get_or_default d.plan.entries k no_entry e lt) ∙ is)
-
-  pub IsPlan-finished : (last : List (Option ℕ)) → AreLast d.plan last → IsPlan (finished d (length last))
-  IsPlan-finished last are =
+  pub IsPlan-finished :
+      (drawings : ℕ) → All (λ e. IfSome (drawing_of e.job) (λ x. x < drawings)) d.plan.entries → IsPlan (finished d drawings)
+  IsPlan-finished drawings below =
       record {
         few_tiles = draft.few_tiles;
         few_rows = (omega (arith, rows-whole, draft.few_rows), omega (arith, rows-whole, draft.few_rows));
         few_aliases = draft.few_aliases;
         entries = draft.entries;
-        drawings = needed-below last are;
+        drawings = below;
         whole = has ∙ ap (λ r. r * length d.plan.tiles) (sym rows-whole);
         roots = λ row tile row_there tile_there. let is = root-finished row tile row_there tile_there in record { there = is.there; rect = is.rect };
         ends = AreEnds-more draft.rooted draft.ends;
@@ -245,16 +223,22 @@ module _ {d : Draft} {firsts : List ℕ} (draft : IsDraft d firsts) (has : HasRo
           (λ k lt. lt-ltb (first_section d.plan k) s (omega (arith, is.before k lt, draft.first k (omega arith))))
           (λ k from lt. le-ltb (first_section d.plan k) s (omega (arith, is.from k from lt, draft.first k lt)))))
 
+  -- the aliases tell the first sections
+  pub TellFirsts-finished : TellFirsts d.plan d.plan.entries firsts
+  TellFirsts-finished =
+      record { aliases = refl; first = λ k lt. draft.first k lt; below = first_section-below }
+
   pub IsKept-finished :
-      (news starts : List ℕ) (last : List (Option ℕ)) → AreNews d.plan news starts → AreLast d.plan last → length last < 2 ^ 32
-      → IsKept (finished d (length last)) firsts news starts last
-  IsKept-finished news starts last new are few =
+      (drawings : ℕ) → All (λ e. IfSome (drawing_of e.job) (λ x. x < drawings)) d.plan.entries
+      → (news starts : List ℕ) (last : List (Option ℕ)) → AreNews d.plan news starts → AreLast d.plan last → drawings < 2 ^ 32
+      → IsKept (finished d drawings) firsts news starts last
+  IsKept-finished drawings below news starts last new are few =
       record {
-        plan = IsPlan-finished last are;
+        plan = IsPlan-finished drawings below;
         firsts_many = draft.firsts_many;
         first = draft.first;
         new = record { each = new.each; starts_many = new.starts_many; start = new.start };
-        lasts = λ x. are x ∙ last_section-finished d (length last) x;
+        lasts = λ x. are x ∙ last_section-finished d drawings x;
         few_drawings = few;
         few_tints = draft.few_tints;
       }

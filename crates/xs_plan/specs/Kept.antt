@@ -128,6 +128,26 @@ pub record AreFirsts (entries : List Entry) (firsts : List ℕ) (sections : ℕ)
   pub rise : (k later : ℕ) → k ≤ later → later < length entries → slice_index firsts k ≤ slice_index firsts later
   pub below : (k : ℕ) → k < length entries → slice_index firsts k < sections
 
+-- ---- the last section that needs each drawing
+
+-- the first section of the last one of some first aliases that needs a drawing, or none where none needs it
+abbrev pub IsLastAmong : List Entry → List ℕ → ℕ → ℕ → Option ℕ → Type 0
+IsLastAmong entries firsts count d None = (k : ℕ) → k < count → ¬ (drawing_of (entry_at entries k).job ≡ Some d)
+IsLastAmong entries firsts count d (Some s) =
+    (k : ℕ) × (k < count) × (drawing_of (entry_at entries k).job ≡ Some d) × (s ≡ slice_index firsts k)
+    × ((later : ℕ) → k < later → later < count → ¬ (drawing_of (entry_at entries later).job ≡ Some d))
+
+-- a section told of a drawing, if there is one
+abbrev pub with_section : List (Option ℕ) → Option ℕ → ℕ → List (Option ℕ)
+with_section last None s = last
+with_section last (Some d) s = slice_set last d (Some s)
+
+-- the aliases of a plan, and a list that tells the first section of each
+pub record TellFirsts (p : PlanRecord) (entries : List Entry) (firsts : List ℕ) : Type 0 where
+  pub aliases : p.entries ≡ entries
+  pub first : (k : ℕ) → k < length p.entries → slice_index firsts k ≡ first_section p k
+  pub below : (k : ℕ) → k < length p.entries → first_section p k < sections_in p
+
 -- ---- a plan
 
 -- the drawings of a plan, each once in the order in which sections need them; how many of these there are

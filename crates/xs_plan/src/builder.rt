@@ -1,11 +1,12 @@
-ghost use Rattle.std.specs.Prelude.{◌≡◌, ◌<◌, ◌≤◌, ◌+◌, ◌*◌, ◌/◌, ◌%◌, ◌^◌, ◌==◌, [], ◌∷◌, ◌++◌, Option, Some, None, IfOk, OnOk, length, slice_get, vec_len, vec_capacity, if◌then◌else◌};
-ghost use Rattle.xs_plan.specs.Record.{entry_at, inputs_from};
+ghost use Rattle.std.specs.Prelude.{◌≡◌, ◌<◌, ◌≤◌, ◌+◌, ◌*◌, ◌/◌, ◌%◌, ◌^◌, ◌==◌, [], ◌∷◌, ◌++◌, Option, Some, None, All, IfOk, IfSome, OnOk, length, slice_get, vec_len, vec_capacity, if◌then◌else◌};
+ghost use Rattle.xs_plan.specs.Record.{drawing_of, entry_at, inputs_from};
 ghost use Rattle.xs_plan.specs.Reads.{reads_in};
 ghost use Rattle.xs_plan.specs.Valid.{IsEntry};
-ghost use Rattle.xs_plan.specs.Draft.{Draft, empty_draft, with_entry, with_tint, with_root, next_tile, finished, LacksRoots, HasRoots, ReachesNew, AreLast};
+ghost use Rattle.xs_plan.specs.Draft.{Draft, empty_draft, with_entry, with_tint, with_root, next_tile, finished, LacksRoots, HasRoots, ReachesNew};
 
 use crate::aliases::Aliases;
 use crate::job::Job;
+use crate::last::last_sections;
 use crate::limits::{MOST_BUILT, MOST_ROWS, MOST_TILES};
 use crate::news::News;
 use crate::plan::Plan;
@@ -142,12 +143,11 @@ impl Builder {
         Ok(())
     }
 
-    /// The plan of what was added. The list tells of each drawing the last section that needs it.
-    pub fn finish(self, last: Vec<Option<u32>>) -> Result<Plan, Memory>
+    /// The plan of what was added, where there are so many drawings.
+    pub fn finish(self, drawings: u32) -> Result<Plan, Memory>
         requires has_roots { HasRoots self }
-        requires last { AreLast self.plan last.items }
-        requires few_drawings { length last.items < 2 ^ 32 }
-        ensures { IfOk result (λ p. p ≡ finished self (length last.items)) }
+        requires drawings { All (λ e. IfSome (drawing_of e.job) (λ d. d < drawings)) self.plan.entries }
+        ensures { IfOk result (λ p. p ≡ finished self drawings) }
     {
         let Builder {
             alloc,
@@ -160,7 +160,8 @@ impl Builder {
             firsts,
         } = self;
         let sections = (ends.len() as u32).div_ceil(SECTION_ROWS);
-        let news = News::of(alloc, &aliases, &firsts, sections, last.len() as u32)?;
+        let news = News::of(alloc, &aliases, &firsts, sections, drawings)?;
+        let last = last_sections(alloc, &aliases, &firsts, drawings)?;
         Ok(Plan {
             tiles,
             aliases,

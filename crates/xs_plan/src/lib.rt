@@ -8,6 +8,7 @@ mod aliases;
 mod builder;
 pub mod examples;
 mod job;
+mod last;
 pub mod laws;
 pub mod limits;
 mod news;

@@ -92,7 +92,7 @@ fn take_drawing(
 }
 
 /// The drawing that a job needs.
-fn needed_drawing(job: Job) -> Option<u32>
+pub(crate) fn needed_drawing(job: Job) -> Option<u32>
     ensures { result ≡ drawing_of job }
 {
     match job {

@@ -84,6 +84,11 @@ pub fn push_asked(text: &mut String, library: &MemLibrary) -> io::Result<()> {
     Ok(())
 }
 
+/// The text of the notes.
+fn noted(notes: &MemNotes) -> &str {
+    str::from_utf8(notes.bytes()).unwrap_or("(not UTF-8)")
+}
+
 /// What was noted, without the end of its line.
 pub fn push_noted(text: &mut String, notes: &MemNotes) -> io::Result<()> {
     text.push_str("noted ")?;
@@ -97,9 +102,9 @@ fn push_made<L>(text: &mut String, alloc: Global, ended: &Ended<L>) -> io::Resul
         push_bytes(text, object.name.items())?;
         push_frame(text, alloc, object.bytes.items())?;
     }
-    if !ended.notes.bytes().is_empty() {
-        text.push_str("\n  ")?;
-        push_noted(text, &ended.notes)?;
+    for line in noted(&ended.notes).lines() {
+        text.push_str("\n  noted ")?;
+        text.push_str(line)?;
     }
     Ok(())
 }
@@ -130,6 +135,23 @@ fn run_text(alloc: Global, outside: &Outside, failing: Failing, words: &str) -> 
     ended_text(alloc, &ended)
 }
 
+/// What the words do over these files, where only the last line of the notes is told, and how many there are.
+fn lines_text(alloc: Global, outside: &Outside, words: &str) -> io::Result<String> {
+    let ended = run_over(alloc, outside, Failing::NONE, words)?;
+    let mut text = status_text(alloc, &ended.status)?;
+    text.push_str("\n  ")?;
+    push_asked(&mut text, &ended.library)?;
+    let mut count: usize = 0;
+    let mut last = "";
+    for line in noted(&ended.notes).lines() {
+        count = count.saturating_add(1);
+        last = line;
+    }
+    let told = format!(in alloc; "\n  {count} lines, the last: {last}")?;
+    text.push_str(told.as_str())?;
+    Ok(text)
+}
+
 /// What the words do over these files in a library that tells nothing.
 fn quiet_text(alloc: Global, outside: &Outside, words: &str) -> io::Result<String> {
     let library = QuietLibrary::new(outside.library(alloc, 0)?);
@@ -156,6 +178,7 @@ pub fn told(alloc: Global, outside: &Outside, command: &str, words: &str) -> io:
     match command {
         "run" => run_text(alloc, outside, Failing::NONE, words),
         "fail" => failing_text(alloc, outside, words),
+        "lines" => lines_text(alloc, outside, words),
         "quiet" => quiet_text(alloc, outside, words),
         _ => Ok(String::from_str(alloc, "unknown call")?),
     }

@@ -36,13 +36,12 @@ fn squared(alloc: Global, tile: Rect) -> Result<Plan, Memory>
         dy: 0,
     };
     let tiles = vec![in alloc; tile]?;
-    let last = vec![in alloc; Some(0)]?;
     let mut b = Builder::new(alloc, tiles, 1)?;
     let first = b.add(leaf, tile, None, None)?;
     let second = b.add(Job::Pair(Op::Mult), tile, Some(first), Some(first))?;
     aliases_reach_what_their_inputs_reach();
     b.root(second)?;
-    b.finish(last)
+    b.finish(1)
 }
 
 /// A plan of one row: a blur of a drawing, which is read on a wider rectangle than the tile.
@@ -56,13 +55,12 @@ fn softened(alloc: Global, wide: Rect, tile: Rect) -> Result<Plan, Memory>
         dy: 0,
     };
     let tiles = vec![in alloc; tile]?;
-    let last = vec![in alloc; Some(0)]?;
     let mut b = Builder::new(alloc, tiles, 1)?;
     let first = b.add(leaf, wide, None, None)?;
     let second = b.add(Job::Blur(1), tile, Some(first), None)?;
     aliases_reach_what_their_inputs_reach();
     b.root(second)?;
-    b.finish(last)
+    b.finish(1)
 }
 
 /// Gives the next row a job that reads no alias.
@@ -91,7 +89,6 @@ fn tinted(alloc: Global, tile: Rect, tint: Palette) -> Result<Plan, Memory>
         dy: 0,
     };
     let tiles = vec![in alloc; tile]?;
-    let last = vec![in alloc; Some(0)]?;
     let mut b = Builder::new(alloc, tiles, 2)?;
     let tint = b.tint(tint)?;
     show(&mut b, tile, moved)?;
@@ -102,7 +99,7 @@ fn tinted(alloc: Global, tile: Rect, tint: Palette) -> Result<Plan, Memory>
         tint,
     };
     show(&mut b, tile, under)?;
-    b.finish(last)
+    b.finish(1)
 }
 
 /// A plan of two rows that need no drawing: a card, and nothing.
@@ -110,11 +107,10 @@ fn bare(alloc: Global, tile: Rect, pixel: Pixel) -> Result<Plan, Memory>
     requires { tile ≡ area (pos 0) (pos 0) 1 1 }
 {
     let tiles = vec![in alloc; tile]?;
-    let last = Vec::new(alloc);
     let mut b = Builder::new(alloc, tiles, 2)?;
     show(&mut b, tile, Job::Card(pixel))?;
     show(&mut b, tile, Job::Clear)?;
-    b.finish(last)
+    b.finish(0)
 }
 
 #[test]

@@ -1,8 +1,8 @@
 -- Lemmas on the plan whose making is timed
-use Rattle.std.proofs.Common.{◌≡◌, ◌<◌, ◌≤◌, ◌*◌, ◌/◌, ◌%◌, ℕ, zero, suc, false, leb, ◌↔◌, List, [], ◌∷◌, ◌++◌, Option, Some, None, Contains, length, replicate, slice_get, refl, sym, ap, ap₂, ◌∙◌, subst, ⊎_elim, arith}
+use Rattle.std.proofs.Common.{◌≡◌, ◌<◌, ◌≤◌, ◌*◌, ◌/◌, ◌%◌, ℕ, zero, suc, false, leb, ◌↔◌, List, [], ◌∷◌, ◌++◌, Option, Some, None, IfSome, All, Contains, length, get_or, replicate, slice_get, refl, sym, ap, ap₂, ◌∙◌, subst, ⊎_elim, arith}
 use Rattle.std.specs.Int.{div_ceil}
 use Rattle.std.proofs.lemmas.Bool.{cases_lt}
-use Rattle.std.proofs.lemmas.List.{length_push, length-replicate, get_or-replicate, get_or_append_left, get_or_push}
+use Rattle.std.proofs.lemmas.List.{length_push, length-replicate, get_or-replicate, get_or_append_left, get_or_default, get_or_push}
 use Rattle.std.proofs.lemmas.List.Sums.{count_by-le-length}
 use Rattle.std.proofs.lemmas.Option.{slice_get-get_or}
 use Rattle.xs_base.specs.declared.limits.TheConstants.{SECTION_ROWS}
@@ -135,38 +135,15 @@ pub IsInput-last :
 IsInput-last d k rect e last same =
     record { there = omega (arith, last.last); rect = last.on ∙ same; unclear = last.unclear }
 
--- ---- the last section of each drawing
+-- ---- the drawings that are needed
 
-abbrev Needer : PlanRecord → ℕ → ℕ → Type 0
-Needer p s d =
-    (k : ℕ) × (k < length p.entries) × (first_section p k ≡ s) × (drawing_of (entry_at p.entries k).job ≡ Some d)
-
-module _ {d : Draft} (made : IsMade d) (ends : length d.plan.ends ≡ ROWS) (some : 0 < length d.plan.entries)
-    (needers : (p : PlanRecord) (s d : ℕ) → Contains (needs p s) d ↔ Needer p s d)
-    (last : (p : PlanRecord) (d last : ℕ) → last < sections_in p → Contains (needs p last) d
-    → ((s : ℕ) → last < s → s < sections_in p → ¬ Contains (needs p s) d) → last_section_of p d ≡ Some last)
-    (none : (p : PlanRecord) (d : ℕ) → ((s : ℕ) → s < sections_in p → ¬ Contains (needs p s) d) → last_section_of p d ≡ None) where
-  one-section : sections_in d.plan ≡ 1
-  one-section = ap (λ n. div_ceil n SECTION_ROWS) ends
-
-  first-in_first : first_section d.plan 0 ≡ 0
-  first-in_first =
-      let rows = count_by-le-length (λ end. leb end 0) d.plan.ends in
-      omega arith
-
-  pub AreLast-made : AreLast d.plan (Some 0 ∷ [])
-  AreLast-made zero =
-      sym
-      (last d.plan 0 0 (omega (arith, one-section)) ((needers d.plan 0 0).1 (0, some, first-in_first, made.first some))
-      (λ s after lt has. omega (arith, one-section)))
-  AreLast-made (suc x) =
-      sym
-      (none d.plan (suc x)
-      (λ s lt has.
-      let needer = (needers d.plan s (suc x)).0 has in
-      let zeroth = made.needs needer.0 (suc x) needer.1 needer.3 in
-      omega arith))
-
-pub ends-made :
-    {d : Draft} → IsMade d → length d.plan.roots ≡ ROWS * TILES → (n : ℕ) → n ≡ length d.plan.roots / length d.plan.tiles → n ≡ ROWS
-ends-made made all n is = is ∙ ap₂ (λ r t. r / t) all (tiles-many made)
+-- drawing 0 alone is needed
+pub needed-zero : {d : Draft} → IsMade d → All (λ e. IfSome (drawing_of e.job) (λ x. x < 1)) d.plan.entries
+needed-zero {d} made k e lt =
+    needed (drawing_of (get_or d.plan.entries k e).job) refl
+  where
+    needed : (o : Option ℕ) → drawing_of (get_or d.plan.entries k e).job ≡ o → IfSome o (λ x. x < 1)
+    needed None is = tt
+    needed (Some x) is =
+        let zeroth = made.needs k x lt (ap (λ (y : Entry). drawing_of y.job) (get_or_default d.plan.entries k no_entry e lt) ∙ is) in
+        omega arith

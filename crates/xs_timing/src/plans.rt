@@ -10,9 +10,7 @@ use std::time::Instant;
 use std::{fs, io};
 use xs_base::Memory;
 use xs_pixel::Op;
-use xs_plan::laws::{
-    aliases_reach_what_their_inputs_reach, sections_need_the_drawings_of_their_aliases,
-};
+use xs_plan::laws::aliases_reach_what_their_inputs_reach;
 use xs_plan::limits::MOST_BUILT;
 use xs_plan::{Builder, Job, Plan};
 use xs_rect::Rect;
@@ -177,11 +175,7 @@ fn build(alloc: Global, wide: Rect, tile: Rect) -> Result<Plan, Memory>
     let mut b = Builder::new(alloc, copies(alloc, tile)?, ROWS)?;
     let k = add_row(&mut b, wide, tile)?;
     repeat_row(&mut b, k)?;
-    let mut last = Vec::new(alloc);
-    last.push(Some(0))?;
-    let _rows = b.rows();
-    sections_need_the_drawings_of_their_aliases();
-    b.finish(last)
+    b.finish(1)
 }
 
 fn failed() -> io::Error {

@@ -1,13 +1,16 @@
 -- What one step of a run did at each answer of the outside.
-use Rattle.std.proofs.Common.{◌≡◌, ℕ, ◌<◌, ◌≤◌, List, [], ◌∷◌, ◌++◌, length, take, refl, ap, ◌⊎◌, inl, inr, Option, Some, None, arith}
+use Rattle.std.proofs.Common.{◌≡◌, ℕ, ◌<◌, ◌≤◌, List, [], ◌∷◌, ◌++◌, length, take, refl, sym, ap, ◌∙◌, ◌⊎◌, inl, inr, Option, Some, None, arith}
 use Rattle.std.proofs.lemmas.Bool.Decides.{nat_tests}
+use Rattle.std.proofs.lemmas.List.{append-nil}
 use Rattle.xs_outside.specs.declared.object.Object.{Object}
 use Rattle.xs_outside.specs.Told.{more}
 use Rattle.xs_top.specs.declared.status.Status.{Status}
-use Rattle.xs_top.specs.Trace.{Ask, Place, Line, puts, Outcome, ended, after, Contents, grown}
-use Rattle.xs_top.specs.Runs.{Did, StoppedAsking, StoppedPlacing, StoppedNoting}
+use Rattle.xs_alias.specs.Lines.{with_ends}
+use Rattle.xs_top.specs.Writes.{with_bytes, WroteFront, WroteWhole}
+use Rattle.xs_top.specs.Trace.{Ask, Place, Outcome, ended, after, Contents, grown}
+use Rattle.xs_top.specs.Runs.{Did, StoppedAsking, StoppedPlacing}
 use Rattle.xs_top.specs.Files.{Files}
-use Rattle.xs_top.specs.Outcome.{found, asking, placing, noting}
+use Rattle.xs_top.specs.Outcome.{found, asking, placing}
 use Rattle.xs_top.proofs.Parts.{more-nothing, did_nothing}
 
 -- ---- a file is asked for
@@ -65,25 +68,26 @@ module _ (object : Object) (next : Outcome) (seen : Contents) (now : Option (Lis
 
 -- ---- a line is written
 
-module _ (line : List ℕ) (next : Outcome) (seen : Contents) (now : Option (List ℕ)) where
+module _ (line : List ℕ) (seen : Contents) (now : Option (List ℕ)) where
   abbrev tells : Option (List ℕ) → Contents
   tells notes = record seen { notes = notes }
 
-  pub noted_done : now ≡ more seen.notes (line ++ 10 ∷ []) → Did (noting line next) next seen (record seen { notes = now })
-  unfolding noting
-  noted_done e = record { done = Line line ∷ []; split = refl; told = simp more-nothing (ap tells e) }
+  pub noted_done : now ≡ more seen.notes (line ++ 10 ∷ []) → record seen { notes = now } ≡ with_bytes seen (with_ends (line ∷ []))
+  noted_done e = ap tells (e ∙ ap (more seen.notes) (sym (append-nil (line ++ 10 ∷ []))))
 
-  pub noted_failed : puts next.work ≡ [] → (written : ℕ) × (now ≡ more seen.notes (take written (line ++ 10 ∷ [])))
-      → StoppedNoting (noting line next) seen (record seen { notes = now })
-  unfolding noting
-  noted_failed last part = record {
-    line = line;
-    left = next;
-    last = last;
-    whole = seen;
-    did = did_nothing _ _;
-    broke = record { written = part.0; told = ap tells part.1 };
+  pub noted_failed : (written : ℕ) × (now ≡ more seen.notes (take written (line ++ 10 ∷ []))) → WroteFront (line ∷ []) seen (record seen { notes = now })
+  noted_failed part = record {
+    bytes = take part.0 (line ++ 10 ∷ []);
+    front = record { done = []; line = line; rest = []; split = refl; written = part.0; are = refl };
+    told = ap tells part.1;
   }
 
-  pub noted_memory : now ≡ seen.notes → Did (noting line next) (noting line next) seen (record seen { notes = now })
-  noted_memory e = rw e (did_nothing _ _)
+  pub noted_memory : now ≡ seen.notes → WroteWhole (line ∷ []) seen (record seen { notes = now })
+  noted_memory e = (
+    record {
+      bytes = [];
+      front = record { done = []; line = line; rest = []; split = refl; written = 0; are = refl };
+      told = ap tells (e ∙ sym (more-nothing seen.notes));
+    },
+    refl,
+  )

@@ -4,14 +4,14 @@ use Rattle.std.proofs.lemmas.Bool.{false≢true}
 use Rattle.xs_top.specs.declared.status.Status.{Status}
 use Rattle.xs_top.specs.declared.status.Status.TheVariants as answers
 use Rattle.xs_top.specs.Causes.{is_of_words}
-use Rattle.xs_top.specs.Words.{Heeds, answer_to, answer_to_command}
+use Rattle.xs_top.specs.Words.{Heeds, answer_to, answer_to_command, is_dry, says_dry}
 use Rattle.xs_words.specs.declared.command.Command.{Command}
 use Rattle.xs_words.specs.declared.fault.WordsFault.{WordsFault}
 use Rattle.xs_words.specs.declared.fault.WordsFault.TheVariants as words_fault
 use Rattle.xs_words.specs.Grammar.{reading_of, Reads}
 use Rattle.xs_top.specs.Seen.{Seen}
-use Rattle.xs_top.specs.Leaves.{Leaves}
-use Rattle.xs_top.specs.Runs.{Stopped}
+use Rattle.xs_top.specs.Leaves.{Leaves, QuietUnless}
+use Rattle.xs_top.specs.Runs.{Stopped, Undone}
 use Rattle.xs_top.specs.Texts.{words_status}
 use Rattle.xs_top.specs.Files.{Files}
 use Rattle.xs_top.specs.Outcome.{commanding, outcome}
@@ -49,3 +49,13 @@ built_heeded before now answer inside =
 
 pub unbuilt_heeded : (seen : Seen) → Heeds (Some answers.NotYet) seen seen answers.NotYet
 unbuilt_heeded seen = record { refused = λ status is. (inl cc, refl); only = λ told. refl }
+
+pub command_quiet : (words : List (List ℕ)) (command : Command) (before now : Seen) (answer : Status) → reading_of words ≡ Ok command
+    → QuietUnless (is_dry command) before now answer → QuietUnless (says_dry (reading_of words)) before now answer
+command_quiet words command before now answer e quiet = rw e quiet
+
+pub command_undone : (words : List (List ℕ)) (command : Command) (before now : Seen) (answer : Status) → reading_of words ≡ Ok command
+    → Undone (λ files. commanding files command) before now answer → Undone (λ files. outcome files words) before now answer
+command_undone words command before now answer e undone = λ files told written notes memory ends whole.
+    let same = command_obeyed files words command e in
+    undone files told written notes memory (rw same at ends) (rw same at whole)

@@ -110,10 +110,9 @@ front_rendering files name base s from to ordered says =
 
 -- no file says a scene, and the run ends
 pub record SaysNone (files : Files) (name : List ℕ) (next : SceneRecord → Outcome) : Type 0 where
-  pub status : Status
-  pub other : status ≡ answers.Ok → ⊥
+  pub fault : SceneFault
   pub none : (s : SceneRecord) → Says files name s → ⊥
-  pub ends : loading_scene files name next ≡ after (Ask name ∷ []) (ended status)
+  pub ends : loading_scene files name next ≡ after (Ask name ∷ []) (ended (answers.Scene fault))
 
 module _ (files : Files) (name : List ℕ) (next : SceneRecord → Outcome) where
   abbrev SaysOrNot : Type 0
@@ -127,8 +126,7 @@ module _ (files : Files) (name : List ℕ) (next : SceneRecord → Outcome) wher
   unfolding asking
   read_or_not bytes there short (Ok s) e = inl (s, record { bytes = bytes; there = there; short = short; text = e })
   read_or_not bytes there short (Err fault) e = inr (record {
-    status = answers.Scene fault;
-    other = λ same. absurd cc;
+    fault = fault;
     none = λ s says. let same : says.bytes ≡ bytes = cc (says.there, there) in absurd (let text = says.text in cc);
     ends =
         scene_asked files name next
@@ -139,8 +137,7 @@ module _ (files : Files) (name : List ℕ) (next : SceneRecord → Outcome) wher
   unfolding asking
   short_or_not bytes there true e = read_or_not bytes there (grind (arith, nat_tests)) (scene_of bytes) refl
   short_or_not bytes there false e = inr (record {
-    status = no_scene scene_code.TooLong;
-    other = λ same. absurd cc;
+    fault = record { code = scene_code.TooLong; path = [] };
     none = λ s says. let same : says.bytes ≡ bytes = cc (says.there, there) in absurd (let short = says.short in grind (arith, nat_tests));
     ends =
         scene_asked files name next
@@ -150,8 +147,7 @@ module _ (files : Files) (name : List ℕ) (next : SceneRecord → Outcome) wher
   there_or_not : (file : Option (List ℕ)) → files name ≡ file → SaysOrNot
   unfolding asking
   there_or_not None e = inr (record {
-    status = no_scene scene_code.NoScene;
-    other = λ same. absurd cc;
+    fault = record { code = scene_code.NoScene; path = [] };
     none = λ s says. absurd (let there = says.there in cc);
     ends = scene_asked files name next ∙ ap (after (Ask name ∷ [])) (found_absent SCENE_LIMIT _ _ load (files name) e);
   })

@@ -1,10 +1,12 @@
 pub mod Parts
+pub mod Writing
 pub mod Answered
 pub mod Wholes
 pub mod LevelCodes
 pub mod Scenes
 pub mod Listings
 pub mod RowRanges
+pub mod Pieces
 pub mod Drawn
 pub mod Placed
 pub mod Shown
@@ -18,4 +20,6 @@ pub mod Rendering
 pub mod Endings
 pub mod FrameNames
 pub mod Refusals
+pub mod LastLines
+pub mod Demanding
 pub mod Showing

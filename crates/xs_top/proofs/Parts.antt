@@ -8,7 +8,7 @@ use Rattle.xs_top.specs.declared.status.Status.TheVariants as answers
 use Rattle.xs_top.specs.Trace.{Event, Ask, Place, Line, asks, puts, lines, Outcome, ended, after, Contents, grown}
 use Rattle.xs_top.specs.Seen.{Seen, OutsideRecord}
 use Rattle.xs_top.specs.Causes.{is_lost, is_of_library, is_of_output, is_of_words, IsInside}
-use Rattle.xs_top.specs.Leaves.{Leaves, Keeps}
+use Rattle.xs_top.specs.Leaves.{Leaves, Quiet, Keeps}
 use Rattle.xs_top.specs.Runs.{Runs, Did, is_broken, StoppedAsking, StoppedPlacing, StoppedNoting, Stopped}
 
 -- ---- the three readings of a list of events
@@ -86,6 +86,7 @@ stopped_then a b s t u answers.Ok first left then = did_then first then
 stopped_then a b s t u (answers.Usage usage) first left then = did_then first then
 stopped_then a b s t u (answers.Scene fault) first left then = did_then first then
 stopped_then a b s t u (answers.Level drawing code) first left then = did_then first then
+stopped_then a b s t u (answers.Limit what limit) first left then = did_then first then
 stopped_then a b s t u answers.NotYet first left then = did_then first then
 
 pub runs_then : {A : Type 0} (a b : Outcome) (left : A → Outcome) (s t u : Seen) (result : Result A Status) → Did a b s.told t.told → Leaves s t answers.Ok
@@ -104,6 +105,7 @@ stopped_whole all before now answers.Ok whole did = did
 stopped_whole all before now (answers.Usage usage) whole did = did
 stopped_whole all before now (answers.Scene fault) whole did = did
 stopped_whole all before now (answers.Level drawing code) whole did = did
+stopped_whole all before now (answers.Limit what limit) whole did = did
 stopped_whole all before now answers.NotYet whole did = did
 
 -- where there was no memory, something is left
@@ -146,6 +148,7 @@ of_file (answers.Usage usage) lost = absurd cc
 of_file answers.ReadFault lost = absurd cc
 of_file answers.WriteFault lost = absurd cc
 of_file answers.Memory lost = absurd cc
+of_file (answers.Limit what limit) lost = absurd cc
 of_file answers.NotYet lost = absurd cc
 
 -- ---- what is left
@@ -163,7 +166,6 @@ leaves_nothing seen status inside beside = record {
   write = λ e. absurd (cc (ap is_of_output e, beside));
   library = λ _. refl;
   outputs = λ _. record { shelf = refl; notes = refl };
-  notes = λ _. refl;
 }
 
 pub keeps_nothing : (outside : OutsideRecord) (status : Status) → IsInside status → Keeps outside outside status
@@ -173,9 +175,9 @@ keeps_nothing outside status inside =
 pub ok_inside : IsInside answers.Ok
 ok_inside = record { library = refl; output = refl; words = refl }
 
--- a part that came through without a note, and then what follows
-pub leaves_then : (a b c : Seen) (status : Status) → Leaves a b answers.Ok → b.told.notes ≡ a.told.notes → Leaves b c status → Leaves a c status
-leaves_then a b c status first quiet then = record {
+-- a part that came through, and then what follows
+pub leaves_then : (a b c : Seen) (status : Status) → Leaves a b answers.Ok → Leaves b c status → Leaves a c status
+leaves_then a b c status first then = record {
   files = then.files ∙ first.files;
   later = record {
     library = omega (arith, first.later.library, then.later.library);
@@ -190,13 +192,15 @@ leaves_then a b c status first quiet then = record {
       let still = first.outputs refl in
       let after = then.outputs beside in
       record { shelf = after.shelf ∙ still.shelf; notes = after.notes ∙ still.notes };
-  notes = λ silent. then.notes silent ∙ quiet;
 }
 
 pub keeps_then : (a b c : OutsideRecord) (status : Status) → Keeps a b answers.Ok → Keeps b c status → Keeps a c status
 keeps_then a b c status first then = record {
-  left = leaves_then a.seen b.seen c.seen status first.left first.notes then.left;
+  left = leaves_then a.seen b.seen c.seen status first.left then.left;
   notes = then.notes ∙ first.notes;
   words = then.words;
   same = then.same ∙ first.same;
 }
+
+pub quiet_then : (a b c : Seen) (status : Status) → b.told.notes ≡ a.told.notes → Quiet b c status → Quiet a c status
+quiet_then a b c status first then = λ silent. then silent ∙ first

@@ -47,7 +47,7 @@ module _ (files : Files) (name base : List ℕ) (from to : ℕ) (ordered : from 
           checked_good (first_fault said.0) (rendering_scene files from to base said.0)
               (ap (λ o. o.status) (sym (scene_through files name said.0 (rendering_scene files from to base) said.1)) ∙ ends),
         )
-        | inr none ↦ absurd (none.other (ap (λ o. o.status) (sym none.ends) ∙ ends))
+        | inr none ↦ absurd (let other : answers.Scene none.fault ≡ answers.Ok = ap (λ o. o.status) (sym none.ends) ∙ ends in cc)
       ]
 
   rendered_all : TakenOnce → (before now : Contents) → now ≡ grown before (rendering files name from to base).work

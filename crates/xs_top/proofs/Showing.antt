@@ -1,5 +1,5 @@
 -- What a scene that is shown has done; and what a whole run has, without its steps.
-use Rattle.std.proofs.Common.{◌≡◌, ℕ, ◌+◌, ◌-◌, false, List, [], ◌∷◌, ◌++◌, Option, Some, None, Result, Ok, inl, inr, refl, sym, ap, ◌∙◌, subst, Err}
+use Rattle.std.proofs.Common.{◌≡◌, ℕ, ◌+◌, ◌-◌, true, false, List, [], ◌∷◌, ◌++◌, Option, Some, None, Result, Ok, inl, inr, refl, sym, ap, ◌∙◌, subst, Err}
 use Rattle.std.proofs.lemmas.List.{append-nil, append_cancel_left}
 use Rattle.serde_json.specs.Written.{compact_text}
 use Rattle.xs_fault.specs.declared.fault.SceneFault.{SceneFault}
@@ -15,15 +15,15 @@ use Rattle.xs_top.specs.declared.status.Status.{Status}
 use Rattle.xs_top.specs.declared.status.Status.TheVariants as answers
 use Rattle.xs_top.specs.Trace.{Ask, Line, puts, lines, Outcome, ended, after, Contents, grown}
 use Rattle.xs_top.specs.Seen.{Seen}
-use Rattle.xs_top.specs.Causes.{answer_of, is_noting}
-use Rattle.xs_top.specs.Words.{Heeds, answer_to}
-use Rattle.xs_top.specs.Leaves.{Leaves}
-use Rattle.xs_top.specs.Runs.{Runs, GainedFront, is_broken, IsRun}
+use Rattle.xs_top.specs.Causes.{answer_of, is_of_words}
+use Rattle.xs_top.specs.Words.{Heeds, answer_to, says_dry}
+use Rattle.xs_top.specs.Leaves.{Leaves, QuietUnless}
+use Rattle.xs_top.specs.Runs.{Runs, GainedFront, Undone, is_broken, IsRun}
 use Rattle.xs_top.specs.Files.{Files}
 use Rattle.xs_top.specs.Finished.{Says}
 use Rattle.xs_top.specs.Rendered.{IsShown}
-use Rattle.xs_top.specs.Ran.{RanScene, LeftUndone, Ran}
-use Rattle.xs_top.specs.Outcome.{if_faultless, noting, rendered_line, closing, rendering, rendering_scene, showing, showing_scene, commanding, obeying, outcome}
+use Rattle.xs_top.specs.Ran.{RanScene, RanDryRun, LeftUndone, Ran}
+use Rattle.xs_top.specs.Outcome.{if_faultless, noting, rendered_line, closing, rendering, rendering_scene, showing, showing_scene, demanding, commanding, obeying, outcome}
 use Rattle.xs_top.proofs.Parts.{more-nothing}
 use Rattle.xs_top.proofs.Wholes.{result_run}
 use Rattle.xs_top.proofs.Commands.{command_obeyed}
@@ -32,6 +32,7 @@ use Rattle.xs_top.proofs.Finishing.{scene_through}
 use Rattle.xs_top.proofs.Endings.{Stays, scene_in, scene_loaded_in}
 use Rattle.xs_top.proofs.Fronts.{says_or_not}
 use Rattle.xs_top.proofs.Rendering.{checked_good, take_none, run_rows}
+use Rattle.xs_top.proofs.Demanding.{run_demand, is_demanding}
 
 -- ---- a scene that is shown
 
@@ -74,11 +75,12 @@ module _ (files : Files) (name : List ℕ) where
               asked = ap (λ seen. seen.asked) done;
               line = ap (λ seen. seen.notes) done;
             }
-        | inr none ↦ absurd (none.other (ap (λ o. o.status) (sym none.ends) ∙ ends))
+        | inr none ↦ absurd (let other : answers.Scene none.fault ≡ answers.Ok = ap (λ o. o.status) (sym none.ends) ∙ ends in cc)
       ]
 
 module _ (files : Files) (words : List (List ℕ)) (name : List ℕ) (reads : reading_of words ≡ Ok (command.Show name)) (before now : Seen)
-    (result : Status) (run : IsRun (outcome files words) before now result) (left : Leaves before now result) where
+    (result : Status) (run : IsRun (outcome files words) before now result)
+    (quiet : QuietUnless (says_dry (reading_of words)) before now result) where
   is_showing : outcome files words ≡ showing files name
   unfolding commanding
   is_showing = command_obeyed files words (command.Show name) reads
@@ -96,86 +98,42 @@ module _ (files : Files) (words : List (List ℕ)) (name : List ℕ) (reads : re
       front.shelf.1 ∙ (ap (more before.told.shelf) (take_none front.shelf.0 _ (nothing_placed files name)) ∙ more-nothing _)
 
   pub run_scene : RanScene files name before now result
-  run_scene = record { whole = scene_shown; shelf = shelf_left; nothing = left.notes }
-
--- ---- what ends well has a line
-
-abbrev HasLine : Outcome → Type 0
-HasLine o = o.status ≡ answers.Ok → lines o.work ≡ [] → ⊥
-
-lines_stay : Stays HasLine
-lines_stay = record {
-  told = λ d code ends none. cc;
-  asked = λ name next p. p;
-  placed = λ object next p. p;
-}
-
-line_there : (line rest : List ℕ) → line ++ 10 ∷ rest ≡ [] → ⊥
-line_there [] rest e = cc
-line_there (x ∷ line) rest e = cc
-
-closing_line : (rows : ℕ) → HasLine (closing rows)
-unfolding closing noting
-closing_line rows ends none = line_there (rendered_line rows) [] none
-
-showing_line : (s : SceneRecord) → HasLine (showing_scene s)
-unfolding noting
-showing_line s ends none = line_there (shown_text s) [] none
-
-scene_line : (fault : SceneFault) → HasLine (ended (answers.Scene fault))
-scene_line fault ends none = cc
-
-not_yet_line : HasLine (ended answers.NotYet)
-not_yet_line ends none = cc
-
-usage_line : (usage : Usage) → HasLine (ended (answers.Usage usage))
-usage_line usage ends none = cc
-
-command_line : (files : Files) (words : Command) → HasLine (commanding files words)
-unfolding commanding rendering showing
-command_line files (command.Render scene from to workers base) =
-    scene_loaded_in HasLine lines_stay scene_line (rendering_scene files from to base)
-    (λ s. scene_in HasLine lines_stay files s base from to (closing_line (to + 1 - from))) files scene
-command_line files (command.Dry scene from to) = not_yet_line
-command_line files (command.Show scene) = scene_loaded_in HasLine lines_stay scene_line showing_scene showing_line files scene
-command_line files (command.Make seed rows workers) = not_yet_line
-command_line files (command.Again old new from to workers base) = not_yet_line
-
-obeying_line : (files : Files) (reading : Result Command Usage) → HasLine (obeying files reading)
-obeying_line files (Err usage) = usage_line usage
-obeying_line files (Ok command) = command_line files command
-
-outcome_line : (files : Files) (words : List (List ℕ)) → HasLine (outcome files words)
-unfolding outcome
-outcome_line files words = obeying_line files (reading_of words)
-
--- so the notes tell where it was not done
-nothing_more : (written line : List ℕ) → more (Some written) line ≡ Some written → line ≡ []
-unfolding more
-nothing_more written line e =
-    let same : written ++ line ≡ written ++ [] = cc (append-nil written) in append_cancel_left written line [] same
-
-left_undone : (words : List (List ℕ)) (before now : Seen) (answer : Status) → Leaves before now answer → LeftUndone words before now answer
-left_undone words before now answer left files e written told memory ends whole =
-    let work = (outcome files words).work in
-    let quiet : now.told.notes ≡ before.told.notes = left.notes (ap is_noting memory) in
-    let same : more before.told.notes (lines work) ≡ before.told.notes = sym (ap (λ seen. seen.notes) whole) ∙ quiet in
-    outcome_line files words ends (nothing_more written (lines work) (rw told at same))
+  run_scene = record { whole = scene_shown; shelf = shelf_left; nothing = quiet (λ memory. ap says_dry reads) }
 
 -- ---- a whole run
 
 pub ran : TakenOnce → (words : List (List ℕ)) (before now : Seen) (result : Result (Unit {0}) Status)
     → ((files : Files) → before.files ≡ Some files → Runs (outcome files words) (λ _. ended answers.Ok) before now result)
     → Heeds (answer_to (reading_of words)) before now (answer_of result)
-    → Leaves before now (answer_of result) → Ran words before now (answer_of result)
-ran once words before now result did heeds leaves =
+    → Leaves before now (answer_of result) → QuietUnless (says_dry (reading_of words)) before now (answer_of result)
+    → LeftUndone words before now (answer_of result) → Ran words before now (answer_of result)
+ran once words before now result did heeds leaves quiet undone =
     let run = λ (files : Files) (e : before.files ≡ Some files). result_run _ _ _ result (did files e) in
     record {
       told = run;
       rendered = λ files e scene base from to workers ordered reads.
           run_rows files words scene base from to workers ordered reads before now (answer_of result) (run files e) once;
-      shown = λ files e scene reads. run_scene files words scene reads before now (answer_of result) (run files e) leaves;
-      undone = left_undone words before now (answer_of result) leaves;
+      demanded = λ files e scene from to reads.
+          run_demand files scene from to _ (is_demanding files words scene from to reads) before now (answer_of result) (run files e);
+      shown = λ files e scene reads. run_scene files words scene reads before now (answer_of result) (run files e) quiet;
+      undone = undone;
       heeds = heeds;
       left = leaves;
+      quiet = quiet;
+    }
+
+-- a dry run alone
+pub ran_dry : (scene : List ℕ) (from to : ℕ) (before now : Seen) (result : Result (Unit {0}) Status)
+    → ((files : Files) → before.files ≡ Some files → Runs (demanding files scene from to) (λ _. ended answers.Ok) before now result)
+    → Undone (λ files. demanding files scene from to) before now (answer_of result) → is_of_words (answer_of result) ≡ false
+    → Leaves before now (answer_of result) → QuietUnless true before now (answer_of result) → RanDryRun scene from to before now (answer_of result)
+ran_dry scene from to before now result did undone words leaves quiet =
+    let run = λ (files : Files) (e : before.files ≡ Some files). result_run _ _ _ result (did files e) in
+    record {
+      told = run;
+      demanded = λ files e. run_demand files scene from to _ refl before now (answer_of result) (run files e);
+      undone = undone;
+      words = words;
+      left = leaves;
+      quiet = quiet;
     }

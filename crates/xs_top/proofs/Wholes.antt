@@ -107,6 +107,7 @@ stopped_run all before now answers.Ok did = whole_run all _ before now refl did
 stopped_run all before now (answers.Usage usage) did = whole_run all _ before now refl did
 stopped_run all before now (answers.Scene fault) did = whole_run all _ before now refl did
 stopped_run all before now (answers.Level drawing code) did = whole_run all _ before now refl did
+stopped_run all before now (answers.Limit what limit) did = whole_run all _ before now refl did
 stopped_run all before now answers.NotYet did = whole_run all _ before now refl did
 
 pub result_run : (all : Outcome) (before now : Seen) (result : Result (Unit {0}) Status) → Runs all (λ _. ended answers.Ok) before now result

@@ -1,4 +1,4 @@
-use Rattle.std.specs.Prelude.{◌≡◌, ◌≤◌, ◌⊎◌, None, true, false}
+use Rattle.std.specs.Prelude.{◌≡◌, ◌≤◌, ◌⊎◌, Bool, None, true, false}
 use Rattle.xs_outside.specs.Told.{Rose}
 use Rattle.xs_top.specs.declared.status.Status.{Status}
 use Rattle.xs_top.specs.declared.status.Status.TheVariants as answers
@@ -19,7 +19,7 @@ pub record StandStill (before now : Faults) : Type 0 where
 -- what is left of an outside where this is the answer. The files are the same. No count of faults has fallen.
 -- The library's rose where the answer is a fault of reading or, in a library that tells no files, that one is
 -- not there or too long; the shelf's or the notes' rose where it is a fault of writing. At every other answer
--- they stand still: no fault was passed over. The notes tell more only where all is done or writing failed
+-- they stand still: no fault was passed over
 pub record Leaves (before now : Seen) (answer : Status) : Type 0 where
   pub files : now.files ≡ before.files
   pub later : AreLater before.faults now.faults
@@ -30,7 +30,14 @@ pub record Leaves (before now : Seen) (answer : Status) : Type 0 where
       → Rose before.faults.shelf now.faults.shelf ⊎ Rose before.faults.notes now.faults.notes
   pub library : is_of_library answer ≡ false → now.faults.library ≡ before.faults.library
   pub outputs : is_of_output answer ≡ false → StandStill before.faults now.faults
-  pub notes : is_noting answer ≡ false → now.told.notes ≡ before.told.notes
+
+-- the notes tell more only where all is done or writing failed
+abbrev pub Quiet : Seen → Seen → Status → Type 0
+Quiet before now answer = is_noting answer ≡ false → now.told.notes ≡ before.told.notes
+
+-- and of many lines also where memory was wanted
+abbrev pub QuietUnless : Bool → Seen → Seen → Status → Type 0
+QuietUnless many before now answer = (answer ≡ answers.Memory → many ≡ false) → Quiet before now answer
 
 -- so where nothing is noted and no words are read; the library, the shelf and the notes are the ones that were
 -- borrowed

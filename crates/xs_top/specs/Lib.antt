@@ -11,5 +11,7 @@ pub mod Refused
 pub mod Rendered
 pub mod Seen
 pub mod Leaves
+pub mod Writes
+pub mod Demand
 pub mod Words
 pub mod Ran

@@ -26,6 +26,9 @@ use Rattle.xs_top.specs.Frames.{frame_at}
 use Rattle.xs_top.specs.Levels.{file_of, kind_of, raw_kind_of, pictures_of}
 use Rattle.xs_meaning.specs.Expressions.{needed}
 use Rattle.xs_base.specs.Sections.{sections_of}
+use Rattle.xs_demand.specs.Limits.{Limit}
+use Rattle.xs_dryrun.specs.Passing.{what_of, greatest_of}
+use Rattle.xs_top.specs.Demand.{limit_in, plan_in, demand_lines}
 
 -- ---- the steps of a run, each with what follows it
 
@@ -48,6 +51,11 @@ placing object next = after (Place object ∷ []) next
 -- a line is written
 unfoldable pub noting : List ℕ → Outcome → Outcome
 noting line next = after (Line line ∷ []) next
+
+-- lines are written in order
+abbrev pub noting_lines : List (List ℕ) → Outcome → Outcome
+noting_lines [] next = next
+noting_lines (line ∷ lines) next = noting line (noting_lines lines next)
 
 -- ---- the scene
 
@@ -135,10 +143,23 @@ showing_scene s = noting (compact_text (scene_data (record s { format = 2 }))) (
 unfoldable pub showing : Files → List ℕ → Outcome
 showing files name = loading_scene files name showing_scene
 
+-- what follows where no limit is passed
+abbrev pub within_limits : Option Limit → Outcome → Outcome
+within_limits (Some limit) next = ended (answers.Limit (what_of limit) (greatest_of (what_of limit)))
+within_limits None next = next
+
+-- the demand of rows of a scene is written, line by line
+abbrev pub demanding_scene : ℕ → ℕ → SceneRecord → Outcome
+demanding_scene from to s =
+    within_limits (limit_in s from to) (noting_lines (demand_lines (plan_in s from to)) (ended answers.Ok))
+
+unfoldable pub demanding : Files → List ℕ → ℕ → ℕ → Outcome
+demanding files name from to = loading_scene files name (demanding_scene from to)
+
 -- a command is carried out
 unfoldable pub commanding : Files → Command → Outcome
 commanding files (command.Render scene from to workers base) = rendering files scene from to base
-commanding files (command.Dry scene from to) = ended answers.NotYet
+commanding files (command.Dry scene from to) = demanding files scene from to
 commanding files (command.Show scene) = showing files scene
 commanding files (command.Make seed rows workers) = ended answers.NotYet
 commanding files (command.Again old new from to workers base) = ended answers.NotYet

@@ -1,17 +1,17 @@
-use Rattle.std.specs.Prelude.{◌≡◌, ℕ, ◌≤◌, List, Some, Ok, false}
-use Rattle.xs_words.specs.declared.command.Command.TheVariants.{Render, Show}
+use Rattle.std.specs.Prelude.{◌≡◌, ℕ, ◌≤◌, List, Some, Ok, true, false}
+use Rattle.xs_words.specs.declared.command.Command.TheVariants.{Render, Dry, Show}
 use Rattle.xs_words.specs.Grammar.{reading_of}
+use Rattle.xs_dryrun.specs.declared.limits.What.{What}
 use Rattle.xs_top.specs.declared.status.Status.{Status}
 use Rattle.xs_top.specs.declared.status.Status.TheVariants as answers
 use Rattle.xs_top.specs.Files.{Files}
 use Rattle.xs_top.specs.Seen.{Seen}
-use Rattle.xs_top.specs.Trace.{grown}
-use Rattle.xs_top.specs.Causes.{is_noting}
-use Rattle.xs_top.specs.Words.{Heeds, answer_to}
-use Rattle.xs_top.specs.Leaves.{Leaves}
-use Rattle.xs_top.specs.Outcome.{outcome}
-use Rattle.xs_top.specs.Runs.{IsRun}
-use Rattle.xs_top.specs.Rendered.{IsRendered, GainedFrames, IsShown}
+use Rattle.xs_top.specs.Causes.{is_noting, is_of_words}
+use Rattle.xs_top.specs.Words.{Heeds, answer_to, says_dry}
+use Rattle.xs_top.specs.Leaves.{Leaves, QuietUnless}
+use Rattle.xs_top.specs.Outcome.{outcome, demanding}
+use Rattle.xs_top.specs.Runs.{Undone, IsRun}
+use Rattle.xs_top.specs.Rendered.{IsRendered, GainedFrames, IsShown, IsDemanded, PassesLimit, GainedLines}
 
 -- where the library tells its files, what these words did is their outcome over the files
 abbrev pub RanWords : List (List ℕ) → Seen → Seen → Status → Type 0
@@ -44,18 +44,40 @@ RanShow words before now answer =
     (files : Files) → before.files ≡ Some files → (scene : List ℕ) → reading_of words ≡ Ok (Show scene)
     → RanScene files scene before now answer
 
+-- a demand that is told leaves the shelf; the notes gained all its lines where all is done, else a front part of them;
+-- and where a limit is told, its rows pass that one first
+pub record RanDemand (files : Files) (name : List ℕ) (from to : ℕ) (before now : Seen) (answer : Status) : Type 0 where
+  pub whole : answer ≡ answers.Ok → IsDemanded files name from to before.told now.told
+  pub limited : (what : What) (limit : ℕ) → answer ≡ answers.Limit what limit → PassesLimit files name from to what limit
+  pub shelf : now.told.shelf ≡ before.told.shelf
+  pub lines : GainedLines files name from to before.told.notes now.told.notes
+
+-- where the library tells its files and these words say a dry run, the demand of its rows was told
+abbrev pub RanDry : List (List ℕ) → Seen → Seen → Status → Type 0
+RanDry words before now answer =
+    (files : Files) → before.files ≡ Some files → (scene : List ℕ) (from to : ℕ) → reading_of words ≡ Ok (Dry scene from to)
+    → RanDemand files scene from to before now answer
+
+-- what a dry run of rows of a scene has done of a library and notes, without words
+pub record RanDryRun (scene : List ℕ) (from to : ℕ) (before now : Seen) (answer : Status) : Type 0 where
+  pub told : (files : Files) → before.files ≡ Some files → IsRun (demanding files scene from to) before now answer
+  pub demanded : (files : Files) → before.files ≡ Some files → RanDemand files scene from to before now answer
+  pub undone : Undone (λ files. demanding files scene from to) before now answer
+  pub words : is_of_words answer ≡ false
+  pub left : Leaves before now answer
+  pub quiet : QuietUnless true before now answer
+
 -- after want of memory never the whole is done where the run would have ended well
 abbrev pub LeftUndone : List (List ℕ) → Seen → Seen → Status → Type 0
-LeftUndone words before now answer =
-    (files : Files) → before.files ≡ Some files → (written : List ℕ) → before.told.notes ≡ Some written
-    → answer ≡ answers.Memory → (outcome files words).status ≡ answers.Ok
-    → now.told ≡ grown before.told (outcome files words).work → ⊥
+LeftUndone words = Undone (λ files. outcome files words)
 
 -- what a run of these words has done of an outside where it answers so
 pub record Ran (words : List (List ℕ)) (before now : Seen) (answer : Status) : Type 0 where
   pub told : RanWords words before now answer
   pub rendered : RanRender words before now answer
   pub shown : RanShow words before now answer
+  pub demanded : RanDry words before now answer
   pub undone : LeftUndone words before now answer
   pub heeds : Heeds (answer_to (reading_of words)) before now answer
   pub left : Leaves before now answer
+  pub quiet : QuietUnless (says_dry (reading_of words)) before now answer

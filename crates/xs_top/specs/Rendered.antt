@@ -1,4 +1,5 @@
-use Rattle.std.specs.Prelude.{◌≡◌, ℕ, ◌+◌, ◌-◌, ◌*◌, ◌<◌, pos, List, [], ◌∷◌, ◌++◌, length, slice_index_or, take, Option, None, map}
+use Rattle.std.specs.Prelude.{◌≡◌, ℕ, ◌+◌, ◌-◌, ◌*◌, ◌<◌, pos, List, [], ◌∷◌, ◌++◌, length, slice_index_or, take, Option, None, Some, map}
+use Rattle.std.specs.Option.{option_map}
 use Rattle.xs_outside.specs.declared.object.Object.{Object}
 use Rattle.serde_json.specs.Written.{compact_text}
 use Rattle.xs_scene_json.specs.SceneData.{scene_data}
@@ -18,6 +19,10 @@ use Rattle.xs_top.specs.Levels.{file_of}
 use Rattle.xs_meaning.specs.Expressions.{needed}
 use Rattle.xs_base.specs.Sections.{rows_of}
 use Rattle.xs_top.specs.Finished.{Says, AreAccepted, frames_of}
+use Rattle.xs_alias.specs.Lines.{with_ends}
+use Rattle.xs_dryrun.specs.declared.limits.What.{What}
+use Rattle.xs_dryrun.specs.Passing.{what_of, greatest_of}
+use Rattle.xs_top.specs.Demand.{limit_in, plan_in, demand_lines}
 use Rattle.xs_top.specs.Outcome.{rendered_line}
 
 -- ---- a render, without its steps
@@ -65,3 +70,30 @@ pub record IsShown (files : Files) (name : List ℕ) (before now : Contents) : T
   pub faultless : first_fault scene ≡ None
   pub asked : now.asked ≡ more before.asked (name ∷ [])
   pub line : now.notes ≡ more before.notes (compact_text (scene_data (record scene { format = 2 })) ++ 10 ∷ [])
+
+-- ---- a demand that is told
+
+-- the library was asked for the scene, which has no fault and whose rows pass no limit, and a line for each alias of
+-- the plan of these rows was written, and one for all
+pub record IsDemanded (files : Files) (name : List ℕ) (from to : ℕ) (before now : Contents) : Type 0 where
+  pub scene : SceneRecord
+  pub says : Says files name scene
+  pub faultless : first_fault scene ≡ None
+  pub within : limit_in scene from to ≡ None
+  pub asked : now.asked ≡ more before.asked (name ∷ [])
+  pub lines : now.notes ≡ more before.notes (with_ends (demand_lines (plan_in scene from to)))
+
+-- this is the limit that the rows of a scene without a fault pass first
+pub record PassesLimit (files : Files) (name : List ℕ) (from to : ℕ) (what : What) (limit : ℕ) : Type 0 where
+  pub scene : SceneRecord
+  pub says : Says files name scene
+  pub faultless : first_fault scene ≡ None
+  pub passed : option_map what_of (limit_in scene from to) ≡ Some what
+  pub greatest : limit ≡ greatest_of what
+
+-- the notes gained a front part of these lines, and nothing where no file says a scene
+pub record GainedLines (files : Files) (name : List ℕ) (from to : ℕ) (before now : Option (List ℕ)) : Type 0 where
+  pub some :
+      (s : SceneRecord) → Says files name s
+      → (bytes : ℕ) × (now ≡ more before (take bytes (with_ends (demand_lines (plan_in s from to)))))
+  pub none : ((s : SceneRecord) → Says files name s → ⊥) → now ≡ before

@@ -74,6 +74,12 @@ abbrev pub Ends : {A : Type 0} → (Files → Outcome) → OutsideRecord → Out
 Ends all before now result =
     (files : Files) → before.seen.files ≡ Some files → Runs (all files) (λ _. ended answers.Ok) before.seen now.seen result
 
+-- where memory was wanted, a run that would have ended well was not done whole, as told notes show
+abbrev pub Undone : (Files → Outcome) → Seen → Seen → Status → Type 0
+Undone all before now answer =
+    (files : Files) → before.files ≡ Some files → (written : List ℕ) → before.told.notes ≡ Some written
+    → answer ≡ answers.Memory → (all files).status ≡ answers.Ok → now.told ≡ grown before.told (all files).work → ⊥
+
 -- ---- a whole run
 
 -- the answers after which a part of the work may be undone

@@ -6,6 +6,10 @@ use Rattle.xs_fault.specs.declared.fault.FieldFault.TheVariants as field
 use Rattle.xs_rawfile.specs.Codes.{level_code_number as level_number}
 use Rattle.xs_rawfile.specs.declared.fault.LevelCode.{LevelCode}
 use Rattle.xs_rawfile.specs.declared.fault.LevelCode.TheVariants as level
+use Rattle.xs_dryrun.specs.declared.limits.PlanFault.{PlanFault}
+use Rattle.xs_dryrun.specs.declared.limits.PlanFault.TheVariants as plan_fault
+use Rattle.xs_dryrun.specs.declared.limits.What.{What}
+use Rattle.xs_dryrun.specs.declared.limits.What.TheVariants as what
 use Rattle.xs_words.specs.declared.fault.Usage.{Usage}
 use Rattle.xs_words.specs.declared.fault.Usage.TheVariants as usage
 use Rattle.xs_words.specs.declared.fault.WordsFault.{WordsFault}
@@ -22,6 +26,7 @@ status_number (answers.Level drawing code) = 3
 status_number answers.ReadFault = 4
 status_number answers.WriteFault = 5
 status_number answers.Memory = 6
+status_number (answers.Limit what limit) = 7
 status_number answers.NotYet = 8
 
 abbrev about_word : List ℕ → ℕ → List ℕ → List ℕ
@@ -56,6 +61,17 @@ unfoldable pub level_text_of : ℕ → LevelCode → List ℕ
 level_text_of drawing code =
     codes "drawing " ++ decimal drawing ++ codes ": level code " ++ decimal (level_number code) ++ pixel_text_of code
 
+-- what is too much
+abbrev pub what_text_of : What → List ℕ
+what_text_of what.Reach = codes "reach"
+what_text_of what.Aliases = codes "aliases"
+what_text_of what.Reads = codes "reads"
+what_text_of what.SectionBytes = codes "section bytes"
+
+-- the limit that is passed
+unfoldable pub limit_text_of : What → ℕ → List ℕ
+limit_text_of what limit = codes "limit " ++ what_text_of what ++ codes " " ++ decimal limit
+
 -- what the user reads
 abbrev pub text_of : Status → List ℕ
 text_of answers.Ok = []
@@ -65,6 +81,7 @@ text_of (answers.Level drawing code) = level_text_of drawing code
 text_of answers.ReadFault = codes "read fault"
 text_of answers.WriteFault = codes "write fault"
 text_of answers.Memory = codes "out of memory"
+text_of (answers.Limit what limit) = limit_text_of what limit
 text_of answers.NotYet = codes "not built yet"
 
 -- the status of a fault of the words
@@ -76,3 +93,8 @@ words_status words.Memory = answers.Memory
 abbrev pub scene_status : FieldFault → Status
 scene_status (field.Fault fault) = answers.Scene fault
 scene_status field.Memory = answers.Memory
+
+-- the status of a fault of a plan
+abbrev pub plan_status : PlanFault → Status
+plan_status (plan_fault.Limit what limit) = answers.Limit what limit
+plan_status plan_fault.Memory = answers.Memory

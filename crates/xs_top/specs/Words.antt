@@ -1,4 +1,4 @@
-use Rattle.std.specs.Prelude.{◌≡◌, ◌⊎◌, true, Option, None, Some, Result, Ok, Err}
+use Rattle.std.specs.Prelude.{◌≡◌, ◌⊎◌, Bool, true, false, Option, None, Some, Result, Ok, Err}
 use Rattle.xs_words.specs.declared.command.Command.{Command}
 use Rattle.xs_words.specs.declared.command.Command.TheVariants as command
 use Rattle.xs_words.specs.declared.fault.Usage.{Usage}
@@ -11,7 +11,7 @@ use Rattle.xs_top.specs.Seen.{Seen}
 abbrev pub answer_to_command : Command → Option Status
 answer_to_command (command.Render scene from to workers base) = None
 answer_to_command (command.Show scene) = None
-answer_to_command (command.Dry scene from to) = Some answers.NotYet
+answer_to_command (command.Dry scene from to) = None
 answer_to_command (command.Make seed rows workers) = Some answers.NotYet
 answer_to_command (command.Again old new from to workers base) = Some answers.NotYet
 
@@ -19,6 +19,15 @@ answer_to_command (command.Again old new from to workers base) = Some answers.No
 abbrev pub answer_to : Result Command Usage → Option Status
 answer_to (Err usage) = Some (answers.Usage usage)
 answer_to (Ok command) = answer_to_command command
+
+-- whether a command writes many lines, which a dry run does
+abbrev pub is_dry : Command → Bool
+is_dry (command.Dry scene from to) = true
+is_dry command = false
+
+abbrev pub says_dry : Result Command Usage → Bool
+says_dry (Err usage) = false
+says_dry (Ok command) = is_dry command
 
 -- the words alone decide whether there is anything to do. Where there is not, that is the answer unless memory
 -- is wanted, and nothing is asked for, handed over or written; and no other words are answered so

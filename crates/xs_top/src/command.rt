@@ -1,18 +1,19 @@
-ghost use Rattle.std.specs.Prelude.{◌≡◌, ◌≤◌, IfOk, Some, map, string_bytes, false};
+ghost use Rattle.std.specs.Prelude.{◌≡◌, ◌≤◌, [], ◌∷◌, IfOk, Some, map, string_bytes, false};
 ghost use Rattle.serde_json.specs.Written.{compact_text};
 ghost use Rattle.xs_base.specs.declared.limits.TheConstants.{LAST_ROW};
 ghost use Rattle.xs_scene_json.specs.SceneData.{scene_data};
 ghost use Rattle.xs_words.specs.Commands.{IsCommand};
 ghost use Rattle.xs_top.specs.Causes.{answer_of, is_of_words};
-ghost use Rattle.xs_top.specs.Words.{Heeds, answer_to, answer_to_command};
+ghost use Rattle.xs_top.specs.Words.{Heeds, answer_to, answer_to_command, is_dry, says_dry};
 ghost use Rattle.xs_words.specs.Grammar.{reading_of};
-ghost use Rattle.xs_top.specs.Trace.{ended};
 ghost use Rattle.xs_top.specs.Seen.{seen_of};
-ghost use Rattle.xs_top.specs.Leaves.{Leaves};
-ghost use Rattle.xs_top.specs.Runs.{Runs, Ends};
+ghost use Rattle.xs_top.specs.Leaves.{Leaves, Quiet, QuietUnless};
+ghost use Rattle.xs_top.specs.Runs.{Ends, Undone};
+ghost use Rattle.xs_top.specs.Writes.{Writes};
 ghost use Rattle.xs_top.specs.Ran.{Ran};
-ghost use Rattle.xs_top.specs.Outcome.{rendered_line, closing, rendering, showing, commanding, outcome};
+ghost use Rattle.xs_top.specs.Outcome.{rendered_line, rendering, showing, commanding, outcome};
 
+use crate::demand::demand;
 use crate::outside::{Borrows, Outside};
 use crate::render::render_rows;
 use crate::scene::load_scene;
@@ -43,9 +44,8 @@ fn shown_line(alloc: Global, good: GoodScene) -> Result<Vec<u8>, Memory>
 
 /// Writes the line at the end of so many rows.
 fn note_rows<O: Outside>(alloc: Global, rows: u32, outside: &mut O) -> Result<(), Status>
-    ensures did { Runs (closing rows) (λ _. ended Status.Ok) (O.view outside.old).seen (O.view outside.new).seen result }
+    ensures wrote { Writes (rendered_line rows ∷ []) (O.view outside.old).seen (O.view outside.new).seen result }
     ensures leaves { Leaves (O.view outside.old).seen (O.view outside.new).seen (answer_of result) }
-    ensures words { is_of_words (answer_of result) ≡ false }
     ensures same { (O.view outside.new).names ≡ (O.view outside.old).names }
 {
     let line = rendered_line(alloc, rows)?;
@@ -65,6 +65,7 @@ fn render<O: Outside>(
     requires last { to ≤ LAST_ROW }
     ensures did { Ends (λ files. rendering files scene.now from to base.now) (O.view outside.old) (O.view outside.new) result }
     ensures leaves { Leaves (O.view outside.old).seen (O.view outside.new).seen (answer_of result) }
+    ensures quiet { Quiet (O.view outside.old).seen (O.view outside.new).seen (answer_of result) }
     ensures words { is_of_words (answer_of result) ≡ false }
     ensures same { (O.view outside.new).names ≡ (O.view outside.old).names }
 {
@@ -77,6 +78,7 @@ fn render<O: Outside>(
 fn show<O: Outside>(alloc: Global, scene: &Name, outside: &mut O) -> Result<(), Status>
     ensures did { Ends (λ files. showing files scene.now) (O.view outside.old) (O.view outside.new) result }
     ensures leaves { Leaves (O.view outside.old).seen (O.view outside.new).seen (answer_of result) }
+    ensures quiet { Quiet (O.view outside.old).seen (O.view outside.new).seen (answer_of result) }
     ensures words { is_of_words (answer_of result) ≡ false }
     ensures same { (O.view outside.new).names ≡ (O.view outside.old).names }
 {
@@ -90,6 +92,8 @@ fn obey<O: Outside>(alloc: Global, command: &Command, outside: &mut O) -> Result
     requires { IsCommand command.now }
     ensures did { Ends (λ files. commanding files command.now) (O.view outside.old) (O.view outside.new) result }
     ensures leaves { Leaves (O.view outside.old).seen (O.view outside.new).seen (answer_of result) }
+    ensures quiet { QuietUnless (is_dry command.now) (O.view outside.old).seen (O.view outside.new).seen (answer_of result) }
+    ensures undone { Undone (λ files. commanding files command.now) (O.view outside.old).seen (O.view outside.new).seen (answer_of result) }
     ensures heeds { Heeds (answer_to_command command.now) (O.view outside.old).seen (O.view outside.new).seen (answer_of result) }
     ensures same { (O.view outside.new).names ≡ (O.view outside.old).names }
 {
@@ -102,7 +106,7 @@ fn obey<O: Outside>(alloc: Global, command: &Command, outside: &mut O) -> Result
             base,
         } => { render(alloc, scene, *from, *to, base, outside) }
         Command::Show { scene } => show(alloc, scene, outside),
-        Command::Dry { .. } => Err(Status::NotYet),
+        Command::Dry { scene, from, to } => demand(alloc, scene, *from, *to, outside),
         Command::Make { .. } => Err(Status::NotYet),
         Command::Again { .. } => Err(Status::NotYet),
     }
@@ -112,6 +116,8 @@ fn obey<O: Outside>(alloc: Global, command: &Command, outside: &mut O) -> Result
 fn try_run<O: Outside>(alloc: Global, words: &Vec<String>, outside: &mut O) -> Result<(), Status>
     ensures did { Ends (λ files. outcome files (map string_bytes words.now.items)) (O.view outside.old) (O.view outside.new) result }
     ensures leaves { Leaves (O.view outside.old).seen (O.view outside.new).seen (answer_of result) }
+    ensures quiet { QuietUnless (says_dry (reading_of (map string_bytes words.now.items))) (O.view outside.old).seen (O.view outside.new).seen (answer_of result) }
+    ensures undone { Undone (λ files. outcome files (map string_bytes words.now.items)) (O.view outside.old).seen (O.view outside.new).seen (answer_of result) }
     ensures heeds { Heeds (answer_to (reading_of (map string_bytes words.now.items))) (O.view outside.old).seen (O.view outside.new).seen (answer_of result) }
     ensures same { (O.view outside.new).names ≡ (O.view outside.old).names }
 {
@@ -120,7 +126,7 @@ fn try_run<O: Outside>(alloc: Global, words: &Vec<String>, outside: &mut O) -> R
 }
 
 /// The answer of a run: Ok where it came through.
-fn answer(done: Result<(), Status>) -> Status
+pub(crate) fn answer(done: Result<(), Status>) -> Status
     ensures { result ≡ answer_of done }
 {
     match done {

@@ -4,7 +4,9 @@
 //! order, and its answer; the contract of `run` says what each answer has done of it.
 #![tactic(auto)]
 
+mod calls;
 mod command;
+mod demand;
 mod drawing_laws;
 mod frame_laws;
 mod frames;
@@ -18,6 +20,7 @@ mod scene_laws;
 mod status;
 mod texts;
 
+pub use calls::dry;
 pub use command::run;
 pub use drawing_laws::{
     drawings_are_asked_for_in_their_section, the_first_refused_drawing_is_told,

@@ -1,11 +1,12 @@
-ghost use Rattle.std.specs.Prelude.{◌≡◌, false, true, [], List, ℕ, Some, IfOk};
-ghost use Rattle.xs_top.specs.Causes.{answer_of, is_lost, is_of_words};
-ghost use Rattle.xs_top.specs.Trace.{Outcome, puts};
+ghost use Rattle.std.specs.Prelude.{◌≡◌, true, [], ◌∷◌, List, ℕ, Some, IfOk};
+ghost use Rattle.xs_top.specs.Causes.{answer_of, is_lost};
+ghost use Rattle.xs_top.specs.Trace.{Outcome};
 ghost use Rattle.xs_top.specs.Seen.{OutsideRecord};
 ghost use Rattle.xs_top.specs.Leaves.{Keeps, Leaves};
 ghost use Rattle.xs_top.specs.Runs.{Runs, Gives};
+ghost use Rattle.xs_top.specs.Writes.{Writes};
 ghost use Rattle.xs_top.specs.Files.{Files};
-ghost use Rattle.xs_top.specs.Outcome.{asking, placing, noting};
+ghost use Rattle.xs_top.specs.Outcome.{asking, placing};
 
 use crate::status::Status;
 use std::alloc::Global;
@@ -39,12 +40,10 @@ pub(crate) trait Outside {
             (view self.old).seen (view self.new).seen result }
         ensures keeps { Keeps (view self.old) (view self.new) (answer_of result) };
 
-    /// Writes a line, behind which no file comes.
+    /// Writes a line, or several with an end between each two.
     fn note(&mut self, alloc: Global, line: &[u8]) -> Result<(), Status>
-        ensures did { (next : Outcome) → puts next.work ≡ [] → Runs (noting line.now next) (λ _. next)
-            (view self.old).seen (view self.new).seen result }
+        ensures wrote { Writes (line.now ∷ []) (view self.old).seen (view self.new).seen result }
         ensures leaves { Leaves (view self.old).seen (view self.new).seen (answer_of result) }
-        ensures words { is_of_words (answer_of result) ≡ false }
         ensures same { (view self.new).names ≡ (view self.old).names };
 }
 

@@ -2,6 +2,7 @@ ghost use Rattle.std.specs.Prelude.{◌≡◌};
 ghost use Rattle.xs_top.specs.Texts.{status_number};
 
 use xs_base::Memory;
+use xs_dryrun::{PlanFault, What};
 use xs_fault::{FieldFault, SceneFault};
 use xs_rawfile::LevelCode;
 use xs_words::{Usage, WordsFault};
@@ -23,6 +24,8 @@ pub enum Status {
     WriteFault,
     /// There was no memory.
     Memory,
+    /// A limit is passed; `limit` is the greatest number that there may be.
+    Limit { what: What, limit: u64 },
     /// This is not built yet.
     NotYet,
 }
@@ -63,6 +66,19 @@ impl From<FieldFault> for Status {
     }
 }
 
+impl From<PlanFault> for Status {
+    ghost use Rattle.xs_top.specs.Texts.{plan_status};
+
+    ghost from_gives = { λ fault status. status ≡ plan_status fault };
+
+    fn from(fault: PlanFault) -> Status {
+        match fault {
+            PlanFault::Limit { what, limit } => Status::Limit { what, limit },
+            PlanFault::Memory => Status::Memory,
+        }
+    }
+}
+
 /// The number with which the program ends.
 pub fn status_number(status: &Status) -> u8
     ensures { result ≡ status_number status.now }
@@ -75,6 +91,7 @@ pub fn status_number(status: &Status) -> u8
         Status::ReadFault => 4,
         Status::WriteFault => 5,
         Status::Memory => 6,
+        Status::Limit { .. } => 7,
         Status::NotYet => 8,
     }
 }

@@ -1,9 +1,10 @@
 ghost use Rattle.std.specs.Prelude.{◌≡◌, IfOk, string_bytes};
-ghost use Rattle.xs_top.specs.Texts.{text_of, usage_text_of, path_text_of, scene_text_of, level_text_of, pixel_text_of};
+ghost use Rattle.xs_top.specs.Texts.{text_of, usage_text_of, path_text_of, scene_text_of, level_text_of, pixel_text_of, limit_text_of, what_text_of};
 
 use crate::status::Status;
 use std::alloc::Global;
 use xs_base::Memory;
+use xs_dryrun::What;
 use xs_fault::{Path, SceneFault};
 use xs_rawfile::LevelCode;
 use xs_words::Usage;
@@ -20,6 +21,7 @@ pub fn fault_text(alloc: Global, status: &Status) -> Result<Vec<u8>, Memory>
         Status::ReadFault => String::from_str(alloc, "read fault")?,
         Status::WriteFault => String::from_str(alloc, "write fault")?,
         Status::Memory => String::from_str(alloc, "out of memory")?,
+        Status::Limit { what, limit } => limit_text(alloc, *what, *limit)?,
         Status::NotYet => String::from_str(alloc, "not built yet")?,
     };
     Ok(text.into_bytes())
@@ -77,4 +79,25 @@ fn level_text(alloc: Global, drawing: u32, code: LevelCode) -> Result<String, Me
     let number = code.number();
     let pixel = pixel_text(alloc, code)?;
     Ok(format!(in alloc; "drawing {drawing}: level code {number}{pixel}")?)
+}
+
+#[tactic(auto, unfolding(crate::specs::Texts::limit_text_of))]
+/// The limit that is passed.
+fn limit_text(alloc: Global, what: What, limit: u64) -> Result<String, Memory>
+    ensures { IfOk result (λ text. string_bytes text ≡ limit_text_of what limit) }
+{
+    let word = what_word(what);
+    Ok(format!(in alloc; "limit {word} {limit}")?)
+}
+
+/// What is too much.
+fn what_word(what: What) -> &'static str
+    ensures { result.now ≡ what_text_of what }
+{
+    match what {
+        What::Reach => "reach",
+        What::Aliases => "aliases",
+        What::Reads => "reads",
+        What::SectionBytes => "section bytes",
+    }
 }

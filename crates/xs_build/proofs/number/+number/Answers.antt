@@ -4,9 +4,9 @@ use Rattle.xs_demand.specs.Blocks.{enter, spread}
 use Rattle.xs_step.specs.declared.step.Step.{Step}
 use Rattle.xs_build.specs.declared.state.State.{State}
 use Rattle.xs_build.specs.States.{state_expr, stepped_expr, MayAsk, MayEnter, MayStep, Gives}
-use Rattle.xs_build.proofs.Giving.{gives-err, gives-along, gives-recalled, gives-remembered, same_expr}
+use Rattle.xs_build.proofs.Giving.{gives-err, gives-memory, gives-along, gives-in_place, gives-recalled, gives-remembered, same_expr}
 use Rattle.xs_build.proofs.Stepping.{state-step, expr-nested, expr-card, expr-over, never-clear, may-positive, leads-in, next-same, next-keep, next-delete, next-first, next-second, next-nested, next-blur}
-use Rattle.std.proofs.Common.{Bool, List, [], ◌∷◌, ◌++◌, All, map, ap₂, append-nil, append_assoc, true, false, not, Ok}
+use Rattle.std.proofs.Common.{List, [], ◌∷◌, ◌++◌, All, map, ap₂, append-nil, append_assoc, true, false, not, Ok}
 use Rattle.std.proofs.lemmas.List.{map-append}
 use Rattle.std.proofs.lemmas.List.Elements.{All-push}
 use Rattle.xs_meaning.specs.Expressions.{pair_of, Pair, Blur}
@@ -21,7 +21,8 @@ use Rattle.xs_pixel.specs.Points.{plus}
 use Rattle.xs_meaning.specs.Drawings.{colours_of}
 use Rattle.xs_meaning.specs.Expressions.{leaf_by}
 use Rattle.xs_demand.specs.Renamed.{renamed}
-use Rattle.xs_build.specs.States.{named, KeepsSets, expr_at, IsAt, Adds, spot_expr, dropped_in, offset_of, terminal_expr}
+use Rattle.xs_build.specs.States.{named, expr_at, IsAt, Adds, spot_expr, dropped_in, offset_of, terminal_expr, StandsIn}
+use Rattle.xs_stays.specs.Found.{KeepsSets}
 use Rattle.xs_build.proofs.Giving.{grows-then}
 use Rattle.xs_build.proofs.Growing.{Extends, extends-enter, extends-enter_each, longer, is-at, expr-is, all_at-extends, exprs-extend}
 use Rattle.xs_build.proofs.Joining.{gives-blur, blur-longer, gives-pair, pair-longer, pair-longer_first, upper-kept, gives-over, seen_down-push, enter_each-append, seen-is_one, each-longer}
@@ -30,8 +31,25 @@ use Rattle.xs_build.proofs.StackLemmas.{seen-seen_down}
 use Rattle.xs_build.proofs.Stepping.{expr-pair, expr-blur, expr-drawing}
 use Rattle.xs_build.proofs.number.+number.Goals as goal
 
-pub number-number_by-requires : goal.number-number_by-requires
-number-number_by-requires t c =
+pub number-number_normal-requires : goal.number-number_normal-requires
+number-number_normal-requires t c = (search rules, c.in_ok-state.ensures.state.may)
+
+pub number-returns-in_err-state : goal.number-returns-in_err-state
+number-returns-in_err-state t c =
+    let at = c.args.at.now in
+    gives-memory at c.args.build.now c.normal.new.build
+    (state_expr at.scene.now at.names.now c.args.build.now.sets.keys c.args.state) c.args.state.growth _ c.from_residual.ensures.1
+
+pub number-returns : goal.number-returns
+number-returns t c =
+    let at = c.args.at.now in
+    gives-in_place at c.args.left c.args.build.now c.normal.new.build c.number_normal.new.build
+    (state_expr at.scene.now at.names.now c.args.build.now.sets.keys c.args.state) c.args.state.growth c.in_ok-state.state
+    c.number_normal.result c.normal.ensures.entered c.in_ok-state.ensures.sets c.in_ok-state.ensures.state
+    c.number_normal.ensures
+
+pub number_normal-number_by-requires : goal.number_normal-number_by-requires
+number_normal-number_by-requires t c =
     let s = c.args.at.now.scene.now in
     let names = c.args.at.now.names.now in
     let sets = c.args.build.now.sets.keys in
@@ -49,14 +67,14 @@ number-number_by-requires t c =
       },
     )
 
-pub number-returns-in-Some : goal.number-returns-in-Some
-number-returns-in-Some t c =
+pub number_normal-returns-in-Some : goal.number_normal-returns-in-Some
+number_normal-returns-in-Some t c =
     let at = c.args.at.now in
     gives-recalled at c.args.build.now c.args.state c.in-Some.n c.requires.ask.sound
     (c.in-Some.ensures at.scene.now at.names.now c.requires.ask.sound)
 
-pub number-returns-in_err-n : goal.number-returns-in_err-n
-number-returns-in_err-n t c =
+pub number_normal-returns-in_err-n : goal.number_normal-returns-in_err-n
+number_normal-returns-in_err-n t c =
     let at = c.args.at.now in
     let s = at.scene.now in
     let sets = c.args.build.now.sets.keys in
@@ -69,8 +87,8 @@ number-returns-in_err-n t c =
     subst (λ (e : Expr). at.most < length (enter e c.args.state.growth c.args.build.now.entered)) same
     (c.in_err-n.ensures.full (ap Err is)))
 
-pub number-returns : goal.number-returns
-number-returns t c =
+pub number_normal-returns : goal.number_normal-returns
+number_normal-returns t c =
     let at = c.args.at.now in
     let s = at.scene.now in
     let old = c.args.build.now in
@@ -497,30 +515,30 @@ number_by-returns-in-Drawing t c =
     moved
 
 pub number_filtered-number-requires : goal.number_filtered-number-requires
-number_filtered-number-requires t c =
+number_filtered-number-requires t c = (search rules, c.in_ok-state.ensures.state.may)
+
+pub number_filtered-returns-in_err-state : goal.number_filtered-returns-in_err-state
+number_filtered-returns-in_err-state t c =
     let at = c.args.at.now in
-    let s = at.scene.now in
-    let names = at.names.now in
+    let old = c.args.build.now in
     let state = c.args.state in
-    let ask = c.requires.ask in
-    let given = c.in_ok-dropped.ensures in (
-      search rules,
-      subst (λ (u : State). MayEnter at c.args.left u c.dropping.new.self) (sym c.under.ensures)
-          (record {
-            ask =
-                record {
-                  ready = ask.ready;
-                  sound = given.sound s names ask.sound;
-                  there = ask.there;
-                  ends = ask.ends;
-                  state = record { room = ask.state.room; growth = ask.state.growth; set = given.set };
-                };
-            seen =
-                ap (λ (f : ℕ → Bool). is_clear (spot_expr s names state.spot f (offset_of state)))
-                (given.filters ∙ ap (λ (styles : List ℕ). filtering c.args.keep styles (dropped_in c.args.build.now.sets.keys state.dropped)) c.items.ensures)
-                ∙ c.requires.seen;
-          }),
-    )
+    gives-memory at old c.filtered.new.build
+    (spot_expr at.scene.now at.names.now state.spot (filtering c.args.keep c.args.styles (dropped_in old.sets.keys state.dropped)) (offset_of state))
+    state.growth _ c.from_residual.ensures.1
+
+pub number_filtered-returns : goal.number_filtered-returns
+number_filtered-returns t c =
+    let at = c.args.at.now in
+    let old = c.args.build.now in
+    let mid = c.filtered.new.build in
+    let state = c.args.state in
+    let e = spot_expr at.scene.now at.names.now state.spot (filtering c.args.keep c.args.styles (dropped_in old.sets.keys state.dropped)) (offset_of state) in
+    gives-in_place at c.args.left old mid c.number.new.build e state.growth c.in_ok-state.state
+    c.number.result c.filtered.ensures.entered c.in_ok-state.ensures.sets
+    (subst (λ (styles : List ℕ). StandsIn at c.args.left mid (spot_expr at.scene.now at.names.now state.spot
+    (filtering c.args.keep styles (dropped_in old.sets.keys state.dropped)) (offset_of state)) state.growth c.in_ok-state.state)
+    c.items.ensures c.in_ok-state.ensures.state)
+    c.number.ensures
 
 -- ---- rows
 

@@ -6,28 +6,31 @@ use Rattle.xs_build.specs.States.{terminal_expr, expr_at, IsAt, Grows}
 use Rattle.xs_build.proofs.number.+number.Given as goal
 
 abbrev pub decreases-number : goal.decreases-number
-decreases-number l = 4 * l.left + 1
+decreases-number l = 5 * l.left + 2
+
+abbrev pub decreases-number_normal : goal.decreases-number_normal
+decreases-number_normal l = 5 * l.left + 1
 
 abbrev pub decreases-number_by : goal.decreases-number_by
-decreases-number_by l = 4 * l.left
+decreases-number_by l = 5 * l.left
 
 abbrev pub decreases-number_filtered : goal.decreases-number_filtered
-decreases-number_filtered l = 4 * l.left + 2
+decreases-number_filtered l = 5 * l.left + 3
 
 abbrev pub decreases-number_blur : goal.decreases-number_blur
-decreases-number_blur l = 4 * l.left + 2
+decreases-number_blur l = 5 * l.left + 3
 
 abbrev pub decreases-number_both : goal.decreases-number_both
-decreases-number_both l = 4 * l.left + 2
+decreases-number_both l = 5 * l.left + 3
 
 abbrev pub decreases-number_pair : goal.decreases-number_pair
-decreases-number_pair l = 4 * l.left + 3
+decreases-number_pair l = 5 * l.left + 4
 
 abbrev pub decreases-add_seen : goal.decreases-add_seen
-decreases-add_seen l = 4 * l.left + 2
+decreases-add_seen l = 5 * l.left + 3
 
 abbrev pub decreases-number_over : goal.decreases-number_over
-decreases-number_over l = 4 * l.left + 3
+decreases-number_over l = 5 * l.left + 4
 
 abbrev pub invariant-number_over-loop-terminal : goal.invariant-number_over-loop-terminal
 invariant-number_over-loop-terminal l =

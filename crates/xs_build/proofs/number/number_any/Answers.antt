@@ -1,7 +1,8 @@
 use Rattle.std.proofs.Common.{◌≡◌, not, length, refl, sym, ap, ◌∙◌, subst, arith}
 use Rattle.xs_meaning.specs.Expressions.{Clear}
 use Rattle.xs_demand.specs.Blocks.{enter, spread}
-use Rattle.xs_build.specs.States.{state_expr, dropped_in, offset_of, KeepsSets}
+use Rattle.xs_build.specs.States.{state_expr, dropped_in, offset_of}
+use Rattle.xs_stays.specs.Found.{KeepsSets}
 use Rattle.xs_build.proofs.Giving.{gives-along, gives-final, keeps-same}
 use Rattle.xs_build.proofs.Joining.{clear-is, gives-from, enter-clear}
 use Rattle.xs_build.proofs.number.number_any.Goals as goal

@@ -1,4 +1,4 @@
-use Rattle.std.proofs.Common.{◌≡◌, ◌<◌, ◌≤◌, ◌*◌, ℕ, List, Err, length, sym, ap, ap₂, ◌∙◌, subst, arith}
+use Rattle.std.proofs.Common.{◌≡◌, ◌<◌, ◌≤◌, ◌*◌, ℕ, List, Err, length, sym, ap, ap₂, ◌∙◌, subst, arith, ◌++◌, ◌∷◌, []}
 use Rattle.xs_check.specs.Good.{files_of}
 use Rattle.xs_meaning.specs.Expressions.{root_of, reach_of}
 use Rattle.xs_plan.specs.declared.limits.TheConstants.{FARTHEST_REACH}
@@ -9,8 +9,9 @@ use Rattle.xs_build.specs.declared.stop.Stop.{Stop}
 use Rattle.xs_dryrun.specs.declared.limits.Counts.{Counts}
 use Rattle.xs_dryrun.specs.declared.limits.What.TheVariants as what
 use Rattle.xs_dryrun.specs.Passing.{AreCounts}
+use Rattle.xs_dryrun.specs.Planned.{AreRoots}
 use Rattle.xs_dryrun.specs.Trying.{TriesRoot}
-use Rattle.xs_dryrun.proofs.Existing.{root-below}
+use Rattle.xs_dryrun.proofs.RootNumbers.{on_any, root_kept}
 use Rattle.xs_dryrun.proofs.NextRow.{room_before, next_row, fit_named, too_many, reach_passed, limit_told, tried, counts_grow, entered_within}
 use Rattle.xs_dryrun.proofs.next.add_next_row.Goals as goal
 
@@ -52,7 +53,7 @@ try_row-requires-clause-next c =
     c.requires.names
     (λ most below. c.renaming_keeps_fit.ensures count most names below root
     (c.the_roots_of_rows_are_fit.ensures c.args.s.now c.scene.ensures.good.ranges count c.args.row
-    (root-below c.args.s.now c.scene.ensures.good c.args.row))) in (
+    (c.drawings_of_rows_are_there.ensures c.args.s.now c.scene.ensures.good c.args.row))) in (
       r.0,
       r.1,
       renamed names root,
@@ -98,8 +99,8 @@ try_row-requires-clause-inputs c =
       ap inputs_entered c.entered-in-Ok.ensures,
     )
 
-pub returns-in-Ok-clause-tries : goal.returns-in-Ok-clause-tries
-returns-in-Ok-clause-tries c =
+pub returns-in_ok-keep_root-in-Ok-clause-tries : goal.returns-in_ok-keep_root-in-Ok-clause-tries
+returns-in_ok-keep_root-in-Ok-clause-tries c =
     let way = c.args.way.now in
     let names = named c.args.names.now in
     let root = root_of c.args.s.now c.args.row in
@@ -124,7 +125,7 @@ returns-in-Ok-clause-tries c =
     c.requires.names
     (λ most below. c.renaming_keeps_fit.ensures count most names below root
     (c.the_roots_of_rows_are_fit.ensures c.args.s.now c.scene.ensures.good.ranges count c.args.row
-    (root-below c.args.s.now c.scene.ensures.good c.args.row))))
+    (c.drawings_of_rows_are_there.ensures c.args.s.now c.scene.ensures.good c.args.row))))
     near counted))
 
 pub returns-in-Err-Full-clause-tries : goal.returns-in-Err-Full-clause-tries
@@ -144,3 +145,13 @@ returns-in-Err-Full-clause-tries c =
     (λ drawings roots follow.
     too_many drawings roots c.args.names.now c.args.place way.build.entered way.rows way.builder follow (renamed names root) counts
     c.most_entered-most.result near counted (omega (arith, same, c.most_entered-most.ensures.is)) (c.in-Err-Full.ensures.full (ap (λ (x : Stop). Err x) c.in-Err-Full.field-0-is)))
+
+pub returns-in_ok-keep_root-in-Ok-clause-held : goal.returns-in_ok-keep_root-in-Ok-clause-held
+returns-in_ok-keep_root-in-Ok-clause-held c =
+    on_any c.try_row.result _
+    (λ earlier held.
+    subst
+    (λ (l : List ℕ). AreRoots c.root.new.self.entered l (earlier ++ renamed (named c.args.names.now) (root_of c.args.s.now c.args.row) ∷ []))
+    (sym c.in_ok-keep_root-in-Ok.ensures)
+    (root_kept c.args.way.now.build.entered c.root.new.self.entered (renamed (named c.args.names.now) (root_of c.args.s.now c.args.row))
+    c.in-Ok.root c.in-Ok.ensures.entered c.args.way.now.roots.items earlier held))

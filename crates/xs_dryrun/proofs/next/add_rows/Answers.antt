@@ -32,7 +32,7 @@ loop-i-preserved c =
     let ensures = c.add_next_row-added.ensures in
     row_added c.args.s.now c.args.names.now c.args.from c.args.place c.args.count c.args.way.now c.loop-i.i c.loop-i.way
     c.add_next_row-added.new.way c.add_next_row-added.result (sym c.is_err.ensures.value ∙ c.if-is_err.false) (omega arith)
-    c.loop-i.invariant ensures.rows ensures.tiles ensures.room ensures.tries
+    c.loop-i.invariant ensures.rows ensures.tiles ensures.room ensures.held ensures.tries
 
 pub returns-clause-tries : goal.returns-clause-tries
 returns-clause-tries c =

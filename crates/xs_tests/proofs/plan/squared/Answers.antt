@@ -1,6 +1,6 @@
--- The second alias reads the first one. One section needs drawing 0 and no other.
-use Rattle.std.proofs.Common.{refl, arith}
-use Rattle.xs_tests.proofs.SmallPlans.{AreLast-once, reaches-both}
+-- The second alias reads the first one. Drawing 0 alone is needed.
+use Rattle.std.proofs.Common.{lit<, refl, arith}
+use Rattle.xs_tests.proofs.SmallPlans.{needed-below_two, reaches-both}
 use Rattle.xs_tests.proofs.plan.squared.Goals as goal
 
 pub root-requires-clause-reaches : goal.root-requires-clause-reaches
@@ -9,7 +9,7 @@ root-requires-clause-reaches c =
     rw (c.in_ok-second.ensures.number, c.in_ok-second.ensures.added, c.in_ok-first.ensures.number, c.in_ok-first.ensures.added, c.in_ok-b.ensures)
     (reaches-both law.itself law.input _ _ (0, omega arith, refl))
 
-pub finish-requires-clause-last : goal.finish-requires-clause-last
-finish-requires-clause-last c =
-    rw (c.in_ok-last.ensures.items, c.in_ok-root.ensures, c.in_ok-second.ensures.added, c.in_ok-first.ensures.added, c.in_ok-b.ensures, c.in_ok-tiles.ensures.items)
-    (AreLast-once _ refl refl)
+pub finish-requires-clause-drawings : goal.finish-requires-clause-drawings
+finish-requires-clause-drawings c =
+    rw (c.in_ok-root.ensures, c.in_ok-second.ensures.added, c.in_ok-first.ensures.added, c.in_ok-b.ensures)
+    (needed-below_two 1 _ _ (lit< tt) tt)

@@ -1,8 +1,8 @@
--- At first there are the tiles alone; at the end one section needs drawing 0 and no other.
+-- At first there are the tiles alone; at the end drawing 0 alone is needed.
 use Rattle.std.proofs.Common.{◌≡◌, ◌<◌, ◌++◌, [], ◌∷◌, Option, Some, List, ℕ, length, replicate, sym, refl, ap, ◌∙◌, arith}
 use Rattle.xs_plan.specs.Record.{Entry}
 use Rattle.xs_timing.specs.declared.plans.TheConstants.{TILES, ROWS}
-use Rattle.xs_timing.proofs.MadeLemmas.{AreLast-made, ends-made}
+use Rattle.xs_timing.proofs.MadeLemmas.{needed-zero}
 use Rattle.xs_timing.proofs.plans.build.Goals as goal
 
 pub add_row-requires-clause-made : goal.add_row-requires-clause-made
@@ -15,14 +15,5 @@ add_row-requires-clause-made c =
       first = λ some. absurd (omega arith);
     })
 
-pub finish-requires-clause-last : goal.finish-requires-clause-last
-finish-requires-clause-last c =
-    let law = c.sections_need_the_drawings_of_their_aliases.ensures in
-    let done = c.in_ok-repeat_row.ensures in
-    let d = c.repeat_row.new.b in
-    let ends : length d.plan.ends ≡ ROWS =
-    sym c.rows-rows.ensures.count ∙ ends-made done.made done.roots c.rows-rows.result c.rows-rows.ensures.whole in
-    let some : 0 < length d.plan.entries = omega (arith, ap (λ (l : List Entry). length l) done.entries, c.in_ok-k.ensures.count) in
-    let told : c.push.new.self.items ≡ Some 0 ∷ [] =
-    c.in_ok-push.ensures.items ∙ ap (λ (l : List (Option ℕ)). l ++ Some 0 ∷ []) c.new-last.ensures.items in
-    rw told (AreLast-made done.made ends some law.needs law.last law.none)
+pub finish-requires-clause-drawings : goal.finish-requires-clause-drawings
+finish-requires-clause-drawings c = needed-zero c.in_ok-repeat_row.ensures.made

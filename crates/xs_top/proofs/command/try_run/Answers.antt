@@ -1,5 +1,8 @@
+use Rattle.std.proofs.Common.{refl, map, string_bytes}
+use Rattle.xs_top.specs.Outcome.{outcome}
 use Rattle.std.proofs.lemmas.Result.{err_from_is_err_and}
-use Rattle.xs_top.proofs.Commands.{command_obeyed, words_stopped, words_leave, words_heeded, command_heeded}
+use Rattle.xs_top.proofs.Commands.{command_obeyed, words_stopped, words_leave, words_heeded, command_heeded, command_quiet, command_undone}
+use Rattle.xs_top.proofs.LastLines.{outcome_line, undone_quietly}
 use Rattle.xs_top.proofs.command.try_run.Goals as goal
 
 pub returns-in_err-command-clause-did : goal.returns-in_err-command-clause-did
@@ -23,3 +26,16 @@ returns-clause-did g c = λ files e.
 
 pub returns-clause-heeds : goal.returns-clause-heeds
 returns-clause-heeds g c = command_heeded _ _ _ _ _ (rw c.as_slice.ensures.value at c.in_ok-command.ensures.reading) c.obey.ensures.heeds
+
+pub returns-in_err-command-clause-quiet : goal.returns-in_err-command-clause-quiet
+returns-in_err-command-clause-quiet g c = λ many silent. refl
+
+pub returns-in_err-command-clause-undone : goal.returns-in_err-command-clause-undone
+returns-in_err-command-clause-undone g c = undone_quietly (λ files. outcome files (map string_bytes c.args.words.now.items))
+    (λ files. outcome_line files (map string_bytes c.args.words.now.items)) (g.O.Outside.view c.args.outside.now).seen (g.O.Outside.view c.args.outside.now).seen _ (λ silent. refl)
+
+pub returns-clause-quiet : goal.returns-clause-quiet
+returns-clause-quiet g c = command_quiet _ _ (g.O.Outside.view c.args.outside.now).seen (g.O.Outside.view c.obey.new.outside).seen _ (rw c.as_slice.ensures.value at c.in_ok-command.ensures.reading) c.obey.ensures.quiet
+
+pub returns-clause-undone : goal.returns-clause-undone
+returns-clause-undone g c = command_undone _ _ (g.O.Outside.view c.args.outside.now).seen (g.O.Outside.view c.obey.new.outside).seen _ (rw c.as_slice.ensures.value at c.in_ok-command.ensures.reading) c.obey.ensures.undone

@@ -9,6 +9,7 @@ returns-in-Ok-clause-sound c = λ s names sound here.
     let b = c.args.self.now in
     record {
       extents = sound.extents;
+      stays = sound.stays;
       states =
           subst (λ (es : List (State × ℕ)). All (λ e. StandsFor s names b.sets.keys b.entered e.0 e.1) es)
           (sym c.in-Ok.ensures.entries)

@@ -2,7 +2,7 @@
 use Rattle.std.proofs.Common.{◌≡◌, ◌+◌, length, ap, ◌∙◌, arith}
 use Rattle.std.specs.Int.{div_ceil}
 use Rattle.xs_base.specs.declared.limits.TheConstants.{SECTION_ROWS}
-use Rattle.xs_plan.proofs.PlanLemmas.{AreFirsts-finished, needed-below, AreNews-finished, IsKept-finished}
+use Rattle.xs_plan.proofs.PlanLemmas.{AreFirsts-finished, AreNews-finished, TellFirsts-finished, IsKept-finished}
 use Rattle.xs_plan.proofs.builder.Builder.finish.Goals as goal
 
 pub of-requires-clause-firsts : goal.of-requires-clause-firsts
@@ -13,17 +13,13 @@ of-requires-clause-firsts c =
     AreFirsts-finished c.self.invariant has c.div_ceil-sections.result
     (c.div_ceil-sections.ensures ∙ ap (λ n. div_ceil n SECTION_ROWS) rows)
 
-pub of-requires-clause-drawings : goal.of-requires-clause-drawings
-of-requires-clause-drawings c =
-    let has = rw (← c.self.view_is) at c.requires.has_roots in
-    let are = rw (← c.self.view_is) at c.requires.last in
-    let many : c.len-2.result ≡ length c.args.last.items = omega (arith, c.len-2.ensures, c.args.last.ok.0) in
-    rw many (needed-below c.self.invariant has c.args.last.items are)
+pub last_sections-requires-clause-drawings : goal.last_sections-requires-clause-drawings
+last_sections-requires-clause-drawings c = let below = rw (← c.self.view_is) at c.requires.drawings in below
 
 pub invariant_of-result : goal.invariant_of-result
 invariant_of-result c =
     let has = rw (← c.self.view_is) at c.requires.has_roots in
-    let are = rw (← c.self.view_is) at c.requires.last in
+    let below = rw (← c.self.view_is) at c.requires.drawings in
     let ends = c.self.inside.ends in
     let rows : c.len.result ≡ length ends.items = omega (arith, c.len.ensures, ends.ok.0) in
     let sections : length c.in_ok-news.news.starts.items ≡ div_ceil (length ends.items) SECTION_ROWS + 1 =
@@ -31,4 +27,8 @@ invariant_of-result c =
     let news = c.in_ok-news.news in
     let told = c.in_ok-news.ensures in
     let new = AreNews-finished c.self.invariant has news.drawings.items news.starts.items told.drawings told.starts sections in
-    IsKept-finished c.self.invariant has c.in_ok-news.news.drawings.items c.in_ok-news.news.starts.items c.args.last.items new are c.requires.few_drawings
+    let last = c.in_ok-last.last.items in
+    let many = c.in_ok-last.ensures.many in
+    let are = c.in_ok-last.ensures.last _ (TellFirsts-finished c.self.invariant has) in
+    IsKept-finished c.self.invariant has (length last) (rw many below) news.drawings.items news.starts.items last new are
+    (omega (arith, many, c.ranges.drawings.fits))

@@ -1,0 +1,11 @@
+mod Entries
+mod Held
+mod Showing
+mod Inputs
+mod Images
+mod Values
+mod Places
+mod Blank
+mod Boxes
+mod Cells
+mod Pictures

@@ -1,0 +1,3 @@
+pub mod Shows
+pub mod Inputs
+pub mod Cells

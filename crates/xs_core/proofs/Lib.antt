@@ -1,0 +1,5 @@
+pub mod CountLemmas
+pub mod StateLemmas
+pub mod KeptLemmas
+pub mod RunLemmas
+pub mod SeatLemmas

@@ -1,0 +1,4 @@
+pub mod Names
+pub mod Canvases
+pub mod Rows
+pub mod Frames

@@ -1,0 +1,2 @@
+pub mod AliveLemmas
+pub mod SmallPlans

@@ -1,0 +1,3 @@
+pub mod Sets
+pub mod Stays
+pub mod Found

@@ -1,0 +1,9 @@
+pub mod WordLemmas
+pub mod SumLemmas
+pub mod ViewLemmas
+pub mod FrameLemmas
+pub mod ClaimSteps
+pub mod ReadSteps
+pub mod SlotLemmas
+pub mod SeatSteps
+pub mod OpeningLemmas

@@ -1,0 +1,12 @@
+//! The cache of words: the tiles of a plan, with one atomic word and one slot for each alias, and seats that work at it
+//! at once.
+#![tactic(auto)]
+
+mod opening;
+mod plays;
+mod reads;
+mod rule;
+mod seats;
+mod steps;
+mod view;
+mod words;

@@ -1,0 +1,9 @@
+pub mod Lists
+pub mod ReadLemmas
+pub mod GrewLemmas
+pub mod StepLemmas
+pub mod WorkLemmas
+pub mod RunLemmas
+pub mod AdvanceLemmas
+pub mod SectionLemmas
+pub mod Columns
