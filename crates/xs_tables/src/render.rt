@@ -135,23 +135,6 @@ fn run_text(alloc: Global, outside: &Outside, failing: Failing, words: &str) -> 
     ended_text(alloc, &ended)
 }
 
-/// What the words do over these files, where only the last line of the notes is told, and how many there are.
-fn lines_text(alloc: Global, outside: &Outside, words: &str) -> io::Result<String> {
-    let ended = run_over(alloc, outside, Failing::NONE, words)?;
-    let mut text = status_text(alloc, &ended.status)?;
-    text.push_str("\n  ")?;
-    push_asked(&mut text, &ended.library)?;
-    let mut count: usize = 0;
-    let mut last = "";
-    for line in noted(&ended.notes).lines() {
-        count = count.saturating_add(1);
-        last = line;
-    }
-    let told = format!(in alloc; "\n  {count} lines, the last: {last}")?;
-    text.push_str(told.as_str())?;
-    Ok(text)
-}
-
 /// What the words do over these files in a library that tells nothing.
 fn quiet_text(alloc: Global, outside: &Outside, words: &str) -> io::Result<String> {
     let library = QuietLibrary::new(outside.library(alloc, 0)?);
@@ -178,7 +161,6 @@ pub fn told(alloc: Global, outside: &Outside, command: &str, words: &str) -> io:
     match command {
         "run" => run_text(alloc, outside, Failing::NONE, words),
         "fail" => failing_text(alloc, outside, words),
-        "lines" => lines_text(alloc, outside, words),
         "quiet" => quiet_text(alloc, outside, words),
         _ => Ok(String::from_str(alloc, "unknown call")?),
     }
