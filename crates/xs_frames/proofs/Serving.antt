@@ -1,9 +1,9 @@
 -- The reads of a row's tiles, one after another
-use Rattle.std.proofs.Common.{◌≡◌, ◌≢◌, ◌<◌, ◌≤◌, ℕ, zero, suc, ◌+◌, cond, ◌==◌, Some, List, [], ◌∷◌, ◌++◌, length, map, get_or, refl, sym, ap, subst, ◌∙◌, append_assoc, zero-add, arith}
+use Rattle.std.proofs.Common.{◌≡◌, ◌<◌, ◌≤◌, ◌↔◌, ℕ, zero, suc, ◌+◌, cond, ◌==◌, Some, List, [], ◌∷◌, ◌++◌, length, map, get_or, refl, sym, ap, subst, ◌∙◌, append_assoc, zero-add, inl, inr, arith}
 use Rattle.std.specs.Prelude.{slice_get}
 use Rattle.std.proofs.Math.ListN.{get_or-map}
 use Rattle.std.proofs.Math.Numerals.{suc-eq-add-one}
-use Rattle.std.proofs.lemmas.Bool.{ne_eqb}
+use Rattle.std.proofs.lemmas.Bool.{cases_eq, cases_lt, eq-eqb, ne_eqb}
 use Rattle.std.proofs.lemmas.List.{append-nil, length-map}
 use Rattle.std.proofs.lemmas.List.FromFn.{map-range_with_len_more}
 use Rattle.std.proofs.lemmas.List.Sums.{sum_by-append}
@@ -86,27 +86,61 @@ serves_more p row tiles v w x before more =
     (sym (map-range_with_len_more (λ tile. signed 0 (root_read_of p row tile)) 0 tiles tiles (zero-add tiles)))
     (serves_then v w x (root_reads p row tiles) (signed 0 (root_read_of p row tiles) ∷ []) before more)
 
--- ---- a read that is not among those of the tiles before
+-- ---- the reads of the first tiles
 
 entries-append : (e : ℕ) (xs ys : List Signed) → entries e (xs ++ ys) ≡ entries e xs + entries e ys
 entries-append e xs ys = sum_by-append (λ (s : Signed). cond (s.item == e) 1 0) xs ys
 
-other_read : (p : PlanRecord) (row tile other : ℕ) → other < tile → entries (root_read_of p row tile) (signed 0 (root_read_of p row other) ∷ []) ≡ 0
-other_read p row tile other less =
-    let apart : root_read_of p row other ≢ root_read_of p row tile = λ same. omega (arith, same, less) in
-    rw (ne_eqb (root_read_of p row other) (root_read_of p row tile) apart) refl
-
-before_unserved : (p : PlanRecord) (row tile tiles : ℕ) → tiles ≤ tile → entries (root_read_of p row tile) (root_reads p row tiles) ≡ 0
-before_unserved p row tile zero few = refl
-before_unserved p row tile (suc tiles) few =
-    let before = before_unserved p row tile tiles (omega arith) in
-    let this = other_read p row tile tiles (omega arith) in
+-- the next tile's read is one more
+next_read : (p : PlanRecord) (row tiles e : ℕ)
+    → entries e (root_reads p row (suc tiles)) ≡ entries e (root_reads p row tiles) + entries e (signed 0 (root_read_of p row tiles) ∷ [])
+next_read p row tiles e =
     let more : root_reads p row (suc tiles) ≡ root_reads p row tiles ++ signed 0 (root_read_of p row tiles) ∷ [] =
     ap (λ (n : ℕ). root_reads p row n) (suc-eq-add-one tiles)
     ∙ map-range_with_len_more (λ t. signed 0 (root_read_of p row t)) 0 tiles tiles (zero-add tiles) in
-    let all = ap (λ (l : List Signed). entries (root_read_of p row tile) l) more
-    ∙ entries-append (root_read_of p row tile) (root_reads p row tiles) (signed 0 (root_read_of p row tiles) ∷ []) in
-    omega (arith, before, this, all)
+    ap (λ (l : List Signed). entries e l) more ∙ entries-append e (root_reads p row tiles) (signed 0 (root_read_of p row tiles) ∷ [])
+
+-- the read of one of the first tiles
+record IsOfTile (p : PlanRecord) (row tiles e : ℕ) : Type 0 where
+  tile : ℕ
+  there : tile < tiles
+  is : e ≡ root_read_of p row tile
+
+reads_to : (p : PlanRecord) (row tiles e : ℕ) → 0 < entries e (root_reads p row tiles) → IsOfTile p row tiles e
+reads_to p row zero e some = absurd (let n : 0 < 0 = some in omega (arith, n))
+reads_to p row (suc tiles) e some = elim (cases_eq (root_read_of p row tiles) e) [
+  | inl same ↦ record { tile = tiles; there = omega arith; is = sym same }
+  | inr differ ↦
+      let other : entries e (signed 0 (root_read_of p row tiles) ∷ []) ≡ 0 = rw (ne_eqb (root_read_of p row tiles) e differ) refl in
+      let before = reads_to p row tiles e (omega (arith, some, next_read p row tiles e, other)) in
+      record { tile = before.tile; there = omega (arith, before.there); is = before.is }
+]
+
+reads_from : (p : PlanRecord) (row tiles tile e : ℕ) → tile < tiles → e ≡ root_read_of p row tile → 0 < entries e (root_reads p row tiles)
+reads_from p row zero tile e less is = absurd (omega (arith, less))
+reads_from p row (suc tiles) tile e less is = elim (cases_lt tile tiles) [
+  | inl before ↦ omega (arith, reads_from p row tiles tile e before is, next_read p row tiles e)
+  | inr last ↦
+      let same : tile ≡ tiles = omega (arith, less, last) in
+      let here : root_read_of p row tiles ≡ e = sym (is ∙ ap (λ t. root_read_of p row t) same) in
+      let one : entries e (signed 0 (root_read_of p row tiles) ∷ []) ≡ 1 = rw (eq-eqb (root_read_of p row tiles) e here) refl in
+      omega (arith, one, next_read p row tiles e)
+]
+
+pub row_reads : (p : PlanRecord) (row tiles e : ℕ)
+    → 0 < entries e (root_reads p row tiles) ↔ ((tile : ℕ) × (tile < tiles) × (e ≡ root_read_of p row tile))
+row_reads p row tiles e =
+    (λ some. let o = reads_to p row tiles e some in (o.tile, o.there, o.is), λ o. reads_from p row tiles o.0 e o.1 o.2)
+
+-- the read of a later tile is not among them
+before_unserved : (p : PlanRecord) (row tile tiles : ℕ) → tiles ≤ tile → entries (root_read_of p row tile) (root_reads p row tiles) ≡ 0
+before_unserved p row tile tiles few = elim (cases_lt 0 (entries (root_read_of p row tile) (root_reads p row tiles))) [
+  | inl some ↦
+      let o = reads_to p row tiles (root_read_of p row tile) some in
+      let same = o.is in
+      absurd (omega (arith, same, o.there, few))
+  | inr none ↦ omega (arith, none)
+]
 
 pub still_unserved :
     (p : PlanRecord) (row tile : ℕ) (v w : DeskView) → MayGather p row v → tile < length p.tiles → Serves p row tile v w

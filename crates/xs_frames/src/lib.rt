@@ -4,6 +4,7 @@
 mod canvas;
 mod frame;
 mod gather;
+pub mod laws;
 mod name;
 mod root;
 

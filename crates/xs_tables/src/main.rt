@@ -17,6 +17,7 @@
 //!   file of that name, and `NAME=+N` so many zeros
 //! - `run WORDS`: what the words do: the status and its text, the names that were asked for, the files on
 //!   the shelf and the notes
+//! - `counted WORDS`: what the words answer: the status and its text, and the last line of the notes alone
 //! - `fail get N WORDS`, `fail put N WORDS`, `fail note N WORDS`: as `run`, where that call fails
 //! - `fail every get WORDS`, `fail every put WORDS`, `fail every note WORDS`: how many calls of this kind the
 //!   words make, and what is left where each in turn fails, on a line each, and then where none does

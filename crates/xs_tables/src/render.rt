@@ -142,6 +142,22 @@ fn quiet_text(alloc: Global, outside: &Outside, words: &str) -> io::Result<Strin
     quiet_ended_text(alloc, &ended)
 }
 
+/// What the words answer over these files, and the last line that was noted, if any.
+fn counted_text(alloc: Global, outside: &Outside, words: &str) -> io::Result<String> {
+    let ended = run_over(alloc, outside, Failing::NONE, words)?;
+    let mut text = status_text(alloc, &ended.status)?;
+    let lines = noted(&ended.notes).trim_end();
+    let last = match lines.rsplit_once('\n') {
+        Some((_, last)) => last,
+        None => lines,
+    };
+    if !last.is_empty() {
+        text.push_str("\n  at last ")?;
+        text.push_str(last)?;
+    }
+    Ok(text)
+}
+
 /// What the words do where one call fails, or each in turn: the kind of the call and its number, or `every`
 /// and the kind, come before them.
 fn failing_text(alloc: Global, outside: &Outside, words: &str) -> io::Result<String> {
@@ -161,6 +177,7 @@ pub fn told(alloc: Global, outside: &Outside, command: &str, words: &str) -> io:
     match command {
         "run" => run_text(alloc, outside, Failing::NONE, words),
         "fail" => failing_text(alloc, outside, words),
+        "counted" => counted_text(alloc, outside, words),
         "quiet" => quiet_text(alloc, outside, words),
         _ => Ok(String::from_str(alloc, "unknown call")?),
     }

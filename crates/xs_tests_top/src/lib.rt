@@ -4,6 +4,8 @@
 #![tactic(auto)]
 
 #[cfg(test)]
+mod demand;
+#[cfg(test)]
 mod direct;
 #[cfg(test)]
 mod index;

@@ -66,6 +66,7 @@ module _ (told : Option Pictures) (p : PlanRecord) where
     ready = λ known. absurd (omega (arith, was.known (omega (arith, known, term_le (knows k) s.views id v me))));
     alone_taken = λ solo taken. absurd (omega (arith, was.says, taken));
     alone_lost = λ solo lost. absurd (omega (arith, was.says, lost));
+    alone_ready = λ solo finished. absurd (omega (arith, was.says, finished));
   }
   found_at s id k word v home Taken holds me was = record {
     shape = Taken;
@@ -76,6 +77,7 @@ module _ (told : Option Pictures) (p : PlanRecord) where
         let mine = alone_sum s id v (wins k) holds me solo (λ u ok joined. omega (arith, ok.gone joined k)) in
         omega (arith, mine, was.won, was.made, was.lost, term_le (makes k) s.views id v me, term_le (loses k) s.views id v me);
     alone_lost = λ solo lost. absurd (omega (arith, was.says, lost));
+    alone_ready = λ solo finished. absurd (omega (arith, was.says, finished));
   }
   found_at s id k word v home GivenUp holds me was = record {
     shape = GivenUp;
@@ -87,6 +89,7 @@ module _ (told : Option Pictures) (p : PlanRecord) where
         let mine = alone_sum s id v (loses k) holds me solo
         (λ u ok joined. omega (arith, ok.gone joined k, ok.backed k)) in
         omega (arith, mine, was.lost);
+    alone_ready = λ solo finished. absurd (omega (arith, was.says, finished));
   }
   found_at s id k word v home (Finished turn cleared reads) holds me was =
       let more : 3 ≤ word = omega (arith, was.says) in record {
@@ -96,6 +99,10 @@ module _ (told : Option Pictures) (p : PlanRecord) where
         ready = λ known. (ne_of_gt (omega (arith, more)), ne_of_gt (omega (arith, more)), ne_of_gt (omega (arith, more)));
         alone_taken = λ solo taken. absurd (omega (arith, more, taken));
         alone_lost = λ solo lost. absurd (omega (arith, more, lost));
+        alone_ready = λ solo finished.
+            let mine = alone_sum s id v (makes k) holds me solo
+            (λ u ok joined. omega (arith, ok.gone joined k, ok.backed k)) in
+            omega (arith, mine, was.made);
       }
 
   pub found :
@@ -353,7 +360,7 @@ module _ (told : Option Pictures) (p : PlanRecord) where
   won_in-most (Finished turn cleared reads) = omega arith
 
   -- so the alias that a seat has claimed is taken, and no slot of it is out but to be filled by this seat
-  is_taken :
+  pub is_taken :
       (s : State Slot View) (id k : ℕ) (v : View) (shape : Shape) → Holds told p s → get_elem? s.views id ≡ some v
       → makes k v + loses k v + fills k v < wins k v
       → Agrees told p k (get_or s.words k 0) (get_elem? s.homes k) s.views shape
@@ -365,7 +372,7 @@ module _ (told : Option Pictures) (p : PlanRecord) where
       )
 
   -- the same of an alias that a seat fills
-  is_filled :
+  pub is_filled :
       (s : State Slot View) (id k : ℕ) (v : View) (shape : Shape) → Holds told p s → get_elem? s.views id ≡ some v
       → fills k v ≡ 1 → Agrees told p k (get_or s.words k 0) (get_elem? s.homes k) s.views shape
       → (shape ≡ Taken) × (total (fills k) s.views ≡ 1)

@@ -40,7 +40,7 @@ all_open p k =
     ∙ how_many-places (sources p) (λ s. s == k) (reads_in p) (omega arith)
     ∙ ap (count_by (λ s. s == k)) (take_all (reads_in p) (sources p) (omega arith))
 
-first_ok : (p : PlanRecord) → ViewOk p first_view
+pub first_ok : (p : PlanRecord) → ViewOk p first_view
 first_ok p = record {
   backed = λ k. omega arith;
   owned = λ e. omega arith;
@@ -55,7 +55,7 @@ first_ok p = record {
   gone = λ dead. absurd (true≢false dead);
 }
 
-only_first : (id : ℕ) (v : View) → get_elem? (first_view ∷ []) id ≡ some v → (id ≡ 0) × (first_view ≡ v)
+pub only_first : (id : ℕ) (v : View) → get_elem? (first_view ∷ []) id ≡ some v → (id ≡ 0) × (first_view ≡ v)
 only_first zero v at = (refl, some-injective first_view v at)
 only_first (suc id) v at = absurd (some-ne-none v (sym at))
 

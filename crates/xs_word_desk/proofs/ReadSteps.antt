@@ -13,22 +13,28 @@ use Rattle.xs_plan.specs.Record.{PlanRecord}
 use Rattle.xs_plan.specs.declared.job.Reader.{Reader}
 use Rattle.xs_plan.specs.declared.job.Reader.TheVariants.{Port, Root}
 use Rattle.xs_plan.specs.Reads.{reads_in}
-use Rattle.xs_core.specs.Counts.{one_if}
+use Rattle.xs_core.specs.Counts.{one_if, how_many}
 use Rattle.xs_core.specs.States.{source_at, reader_at}
-use Rattle.xs_core.specs.Views.{FoundInTurn, LeftOpen}
-use Rattle.xs_core.proofs.CountLemmas.{how_many-but_one, how_many-some}
+use Rattle.xs_core.specs.Views.{FoundInTurn, LeftOpen, lacking}
+use Rattle.xs_core.proofs.CountLemmas.{how_many-alike, how_many-but_one, how_many-some}
 use Rattle.xs_word_desk.specs.declared.view.View.{View}
 use Rattle.xs_word_desk.specs.Sums.{total}
 use Rattle.xs_word_desk.specs.Words.{Shape, Unclaimed, Taken, GivenUp, Finished, turn_in, leaving_in, leaving_of}
 use Rattle.xs_word_desk.specs.Seen.{wins, knows, fills, leaves, turns_on, is_read_of, serves, turns, is_this, owner, has_number, open_reads}
 use Rattle.xs_word_desk.specs.Rule.{Slot, Home, Rests, Agrees, ViewOk, Holds}
 use Rattle.xs_word_desk.specs.Changes.{with_met, with_turn, with_served, with_cleared}
-use Rattle.xs_word_desk.specs.Plays.{At, MayServe, turned, gave, retired, cleared}
+use Rattle.xs_word_desk.specs.Plays.{At, IsSolo, MayServe, turned, gave, retired, cleared}
 use Rattle.xs_word_desk.proofs.WordLemmas.{IsFinished, finished_by_counts, reads_of_word, turn_of_word, turn_set, cleared_set, turn_given, all_but_turn, read_less}
 use Rattle.xs_word_desk.proofs.SumLemmas.{total-zero, set_here, set_else, set_within, total-set, term_le, total_le, total_gap, total-plus, total-some, entries_push}
-use Rattle.xs_word_desk.proofs.ViewLemmas.{one_at, none_at, some_at, ok_met, ok_turn, ok_given, ok_served, ok_cleared}
+use Rattle.xs_word_desk.proofs.ViewLemmas.{one_at, none_at, some_at, one_if-most, ok_met, ok_turn, ok_given, ok_served, ok_cleared}
 use Rattle.xs_word_desk.proofs.FrameLemmas.{Alike, total-stays, open_reads-stay, after, part_moves, steps}
 use Rattle.xs_word_desk.proofs.ClaimSteps.{stay_home, meets, alone_sum, won_in-most}
+
+-- at most all numbers pass a test
+how_many-most : (n : ℕ) (passes : ℕ → Bool) → how_many n passes ≤ n
+unfolding how_many
+how_many-most zero passes = omega arith
+how_many-most (suc n) passes = omega (arith, how_many-most n passes, one_if-most (passes n))
 
 module _ (told : Option Pictures) (p : PlanRecord) where
   -- an alias that a seat knows is finished
@@ -39,7 +45,7 @@ module _ (told : Option Pictures) (p : PlanRecord) where
       finished_by_counts shape (omega (arith, was.known (omega (arith, known, term_le (knows k) s.views id v me))))
 
   -- a read has one owner at most
-  owner_total :
+  pub owner_total :
       (s : State Slot View) (r : Reader) → Holds told p s
       → total (λ u. owner r (has_number 0 u) u.won) s.views ≤ 1
   owner_total s (Root row tile) holds =
@@ -57,7 +63,7 @@ module _ (told : Option Pictures) (p : PlanRecord) where
       ]
 
   -- nobody has served a read that a seat may serve, nor has another it in turn
-  unserved :
+  pub unserved :
       (s : State Slot View) (id e k : ℕ) (v : View) → Holds told p s → get_elem? s.views id ≡ some v → MayServe p v e k
       → v.turn ≡ None → total (serves e) s.views + total (turns e) s.views ≡ 0
   unserved s id e k v holds me may rests =
@@ -78,7 +84,7 @@ module _ (told : Option Pictures) (p : PlanRecord) where
       (eq-eqb (total (serves e) views) 0 none_served))
 
   -- where a read of an alias is in turn, some read that is not served is, and it is of the plan
-  in_turn :
+  pub in_turn :
       (s : State Slot View) (k : ℕ) → Holds told p s → 0 < total (turns_on p k) s.views
       → (f : ℕ) × (f < reads_in p) × (source_at p f ≡ k) × (total (serves f) s.views ≡ 0) × (0 < total (turns f) s.views)
   in_turn s k holds there_is =
@@ -109,6 +115,13 @@ module _ (told : Option Pictures) (p : PlanRecord) where
       (w : View) × (a : Act Slot) × Valid s.homes m.1 a × Holds told p (stepped s k (bit_or word 4) id m.1 w a)
       × turned told p e (step n k 4 0 none) m word (w, carried_after m.1 a)
 
+  -- a seat that is joined has no read in turn
+  pub gone_turn :
+      (k : ℕ) (u : View) → ViewOk p u → u.live ≡ false → (turn : Option ℕ) → u.turn ≡ turn → turns_on p k u ≡ 0
+  gone_turn k u ok joined None is = ap (is_read_of p k) is
+  gone_turn k u ok joined (Some f) is =
+      let one : turns f u ≡ 1 = ap (is_this f) is ∙ one_at f f refl in absurd (omega (arith, ok.gone joined f, one))
+
   -- another seat has the tile in turn
   turn_found :
       (s : State Slot View) (n id k e : ℕ) (m : At) (cleared : Bool) (reads : ℕ) → Holds told p s
@@ -129,17 +142,12 @@ module _ (told : Option Pictures) (p : PlanRecord) where
           λ set_there. (
             refl,
             λ solo.
-                let alone = alone_sum told p s id m.0 (turns_on p k) holds me solo (λ u ok joined. dead_turn u ok joined u.turn refl) in
+                let alone = alone_sum told p s id m.0 (turns_on p k) holds me solo (λ u ok joined. gone_turn k u ok joined u.turn refl) in
                 let none_mine : turns_on p k m.0 ≡ 0 = ap (is_read_of p k) rests in
                 omega (arith, alone, none_mine, was.turn),
           ),
         ),
       )
-    where
-      dead_turn : (u : View) → ViewOk p u → u.live ≡ false → (turn : Option ℕ) → u.turn ≡ turn → turns_on p k u ≡ 0
-      dead_turn u ok joined None is = ap (is_read_of p k) is
-      dead_turn u ok joined (Some f) is =
-          let one : turns f u ≡ 1 = ap (is_this f) is ∙ one_at f f refl in absurd (omega (arith, ok.gone joined f, one))
 
   turn_taken :
       (s : State Slot View) (n id k e reads : ℕ) (m : At) → Holds told p s
@@ -211,7 +219,7 @@ module _ (told : Option Pictures) (p : PlanRecord) where
     pub open_ones : 0 < reads
     pub agrees : Agrees told p k (get_or s.words k 0) (get_elem? s.homes k) s.views (Finished turn cleared reads)
 
-  is_open :
+  pub is_open :
       (s : State Slot View) (id k e : ℕ) (v : View) → Holds told p s → get_elem? s.views id ≡ some v
       → k < length p.entries → v.turn ≡ None → MayServe p v e k → IsOpen s k
   is_open s id k e v holds me there rests may =
@@ -289,7 +297,7 @@ module _ (told : Option Pictures) (p : PlanRecord) where
   give_at s n id k e v t c (Finished true cleared reads) holds me there has source value fits one was =
       give_taken s n id k e v t c cleared reads holds me there has source value fits was.lies.1.1 was.lies.1.2 was
 
-  turn_in-most : (shape : Shape) → turn_in shape ≤ 1
+  pub turn_in-most : (shape : Shape) → turn_in shape ≤ 1
   turn_in-most Unclaimed = omega arith
   turn_in-most Taken = omega arith
   turn_in-most GivenUp = omega arith
@@ -354,7 +362,7 @@ module _ (told : Option Pictures) (p : PlanRecord) where
         (set_within s.homes k (some None) (omega (arith, holds.deep, there)), refl),
       ))
 
-  leaving_in-most : (shape : Shape) → leaving_in shape ≤ 1
+  pub leaving_in-most : (shape : Shape) → leaving_in shape ≤ 1
   leaving_in-most Unclaimed = omega arith
   leaving_in-most Taken = omega arith
   leaving_in-most GivenUp = omega arith
@@ -381,7 +389,7 @@ module _ (told : Option Pictures) (p : PlanRecord) where
   -- ---- retire
 
   -- one read less is open
-  open_less :
+  pub open_less :
       (views : List View) (id e k : ℕ) (v w : View) → get_elem? views id ≡ some v → e < reads_in p → source_at p e ≡ k
       → total (serves e) views ≡ 0 → serves e w ≡ serves e v + 1 → ((i : ℕ) → i ≢ e → serves i w ≡ serves i v)
       → open_reads p (set views id w) k + 1 ≡ open_reads p views k
@@ -397,6 +405,20 @@ module _ (told : Option Pictures) (p : PlanRecord) where
       (and_right (source_at p e == k) (total (serves e) (set views id w) == 0) (ne_eqb (total (serves e) (set views id w)) 0 served_now)) in
       omega (arith, change, was_open, not_open)
 
+  -- no more reads of an alias are open than there are reads
+  open_most : (views : List View) (k : ℕ) → open_reads p views k ≤ reads_in p
+  open_most views k = how_many-most (reads_in p) (λ e. (source_at p e == k) && (total (serves e) views == 0))
+
+  -- a seat that is alone has served all that is served
+  pub alone_open :
+      (s : State Slot View) (id k : ℕ) (v : View) → Holds told p s → get_elem? s.views id ≡ some v → IsSolo v
+      → open_reads p s.views k ≡ lacking p v.served k
+  alone_open s id k v holds me solo =
+      how_many-alike (reads_in p) (λ e. (source_at p e == k) && (total (serves e) s.views == 0))
+      (λ e. (source_at p e == k) && (serves e v == 0)) (λ e less.
+      ap (λ m. (source_at p e == k) && (m == 0))
+      (alone_sum told p s id v (serves e) holds me solo (λ u ok joined. omega (arith, ok.gone joined e))))
+
   -- the seat after it served a read of the alias, by the word that it found
   abbrev served_view : View → ℕ → ℕ → ℕ → Option ℕ → View
   served_view v e k word leaving = with_met (with_served v e leaving) k (LeftOpen (word / 16 - 1))
@@ -404,7 +426,7 @@ module _ (told : Option Pictures) (p : PlanRecord) where
   abbrev RetireGoal : (s : State Slot View) (n id k e : ℕ) (m : At) (word : ℕ) → Type 0
   RetireGoal s n id k e m word =
       (w : View) × (a : Act Slot) × Valid s.homes m.1 a × Holds told p (stepped s k ((word + (2 ^ 64 - 16)) % 2 ^ 64) id m.1 w a)
-      × retired e (step n k 16 0 none) m word (w, carried_after m.1 a)
+      × retired p e (step n k 16 0 none) m word (w, carried_after m.1 a)
 
   -- what is the same of all other aliases
   served_alike :
@@ -460,35 +482,41 @@ module _ (told : Option Pictures) (p : PlanRecord) where
       let next : ℕ = (word + (2 ^ 64 - 16)) % 2 ^ 64 in
       let none_served : total (serves e) s.views ≡ 0 = omega (arith, unserved s id e k v holds me may rests) in
       let count : word / 16 ≡ suc (suc reads) = ap (λ x. x / 16) was.says ∙ reads_of_word turn cleared (suc (suc reads)) in
-      let leaves_none : leaves k v ≡ 0 = ap (is_this k) stays in (
+      let leaves_none : leaves k v ≡ 0 = ap (is_this k) stays in
+      let still = served_count s id e k word (suc reads) v None me may none_served was.counted in
+      let kept : Holds told p (stepped s k next id m.1 w keeps) =
+      steps told p s k next id v w s.homes holds me there (stay_home told p k s.homes)
+      (λ j differ. served_alike v e k word None j differ may.source stays refl)
+      (ok_met p (with_served v e None) k (LeftOpen (word / 16 - 1))
+      (ok_served p v e None live may.within may.mine rests
+      (subst (λ (j : ℕ). 0 < knows j v) (sym may.source) may.known) (holds.views id v me)))
+      (record { live = refl; number = refl; next = refl; apart = refl })
+      (part_moves told p s.views id v w k word next (get_elem? s.homes k) (get_elem? s.homes k)
+      (Finished turn cleared (suc (suc reads))) (Finished turn cleared (suc reads)) me was
+      (ap (λ x. (x + (2 ^ 64 - 16)) % 2 ^ 64) was.says
+      ∙ read_less turn cleared (suc reads) (subst (λ (x : ℕ). x < 2 ^ 64) was.says fits))
+      (record {
+        won = refl;
+        made = refl;
+        lost = refl;
+        turn = refl;
+        leaving = omega (arith, leaves_none, leaving_alike cleared reads, leaving_alike cleared (suc reads));
+      })
+      still (λ there_is. refl) (
+        total-stays (fills k) s.views id v w me refl ∙ was.lies.0,
+        rests_less k (get_elem? s.homes k) turn cleared reads was.lies.1,
+      )) in (
         w,
         keeps,
         tt,
-        steps told p s k next id v w s.homes holds me there (stay_home told p k s.homes)
-            (λ j differ. served_alike v e k word None j differ may.source stays refl)
-            (ok_met p (with_served v e None) k (LeftOpen (word / 16 - 1))
-            (ok_served p v e None live may.within may.mine rests
-            (subst (λ (j : ℕ). 0 < knows j v) (sym may.source) may.known) (holds.views id v me)))
-            (record { live = refl; number = refl; next = refl; apart = refl })
-            (part_moves told p s.views id v w k word next (get_elem? s.homes k) (get_elem? s.homes k)
-            (Finished turn cleared (suc (suc reads))) (Finished turn cleared (suc reads)) me was
-            (ap (λ x. (x + (2 ^ 64 - 16)) % 2 ^ 64) was.says
-            ∙ read_less turn cleared (suc reads) (subst (λ (x : ℕ). x < 2 ^ 64) was.says fits))
-            (record {
-              won = refl;
-              made = refl;
-              lost = refl;
-              turn = refl;
-              leaving = omega (arith, leaves_none, leaving_alike cleared reads, leaving_alike cleared (suc reads));
-            })
-            (served_count s id e k word (suc reads) v None me may none_served was.counted) (λ there_is. refl) (
-              total-stays (fills k) s.views id v w me refl ∙ was.lies.0,
-              rests_less k (get_elem? s.homes k) turn cleared reads was.lies.1,
-            )),
+        kept,
         (
           λ last. absurd (omega (arith, count, last)),
           λ more. refl,
           omega (arith, count),
+          omega (arith, count, was.counted, open_most s.views k),
+          λ solo. let alone = alone_open (stepped s k next id m.1 w keeps) id k w kept (set_here s.views id v w me) solo in
+              omega (arith, count, still, alone),
         ),
       )
 
@@ -509,34 +537,40 @@ module _ (told : Option Pictures) (p : PlanRecord) where
       let homes : List (slot.Option Slot) = set s.homes k none in
       let none_served : total (serves e) s.views ≡ 0 = omega (arith, unserved s id e k v holds me may rests) in
       let count : word / 16 ≡ 1 = ap (λ x. x / 16) was.says ∙ reads_of_word false false 1 in
-      let leaves_none : leaves k v ≡ 0 = ap (is_this k) stays in (
+      let leaves_none : leaves k v ≡ 0 = ap (is_this k) stays in
+      let still = served_count s id e k word 0 v (Some k) me may none_served was.counted in
+      let kept : Holds told p (stepped s k next id m.1 w (takes k (Some t))) =
+      steps told p s k next id v w homes holds me there
+      (record { many = length-set s.homes k none; stay = λ j differ. set_else s.homes k j none differ })
+      (λ j differ. served_alike v e k word (Some k) j differ may.source stays (none_at k j (λ is. differ (sym is))))
+      (ok_met p (with_served v e (Some k)) k (LeftOpen (word / 16 - 1))
+      (ok_served p v e (Some k) live may.within may.mine rests
+      (subst (λ (j : ℕ). 0 < knows j v) (sym may.source) may.known) (holds.views id v me)))
+      (record { live = refl; number = refl; next = refl; apart = refl })
+      (part_moves told p s.views id v w k word next (get_elem? s.homes k) (get_elem? homes k)
+      (Finished false false 1) (Finished false false 0) me was
+      (ap (λ x. (x + (2 ^ 64 - 16)) % 2 ^ 64) was.says
+      ∙ read_less false false 0 (subst (λ (x : ℕ). x < 2 ^ 64) was.says fits))
+      (record {
+        won = refl;
+        made = refl;
+        lost = refl;
+        turn = refl;
+        leaving = omega (arith, leaves_none, one_at k k refl);
+      })
+      still (λ there_is. refl)
+      (total-stays (fills k) s.views id v w me refl ∙ was.lies.0, set_here s.homes k (some (Some t)) none home)) in (
         w,
         takes k (Some t),
         home,
-        steps told p s k next id v w homes holds me there
-            (record { many = length-set s.homes k none; stay = λ j differ. set_else s.homes k j none differ })
-            (λ j differ. served_alike v e k word (Some k) j differ may.source stays (none_at k j (λ is. differ (sym is))))
-            (ok_met p (with_served v e (Some k)) k (LeftOpen (word / 16 - 1))
-            (ok_served p v e (Some k) live may.within may.mine rests
-            (subst (λ (j : ℕ). 0 < knows j v) (sym may.source) may.known) (holds.views id v me)))
-            (record { live = refl; number = refl; next = refl; apart = refl })
-            (part_moves told p s.views id v w k word next (get_elem? s.homes k) (get_elem? homes k)
-            (Finished false false 1) (Finished false false 0) me was
-            (ap (λ x. (x + (2 ^ 64 - 16)) % 2 ^ 64) was.says
-            ∙ read_less false false 0 (subst (λ (x : ℕ). x < 2 ^ 64) was.says fits))
-            (record {
-              won = refl;
-              made = refl;
-              lost = refl;
-              turn = refl;
-              leaving = omega (arith, leaves_none, one_at k k refl);
-            })
-            (served_count s id e k word 0 v (Some k) me may none_served was.counted) (λ there_is. refl)
-            (total-stays (fills k) s.views id v w me refl ∙ was.lies.0, set_here s.homes k (some (Some t)) none home)),
+        kept,
         (
           λ last. (t, ap (λ (x : ℕ). (with_met (with_served v e (Some k)) k (LeftOpen x), (k, Some t) ∷ m.1)) (omega (arith, count))),
           λ more. absurd (more count),
           omega (arith, count),
+          omega (arith, count, was.counted, open_most s.views k),
+          λ solo. let alone = alone_open (stepped s k next id m.1 w (takes k (Some t))) id k w kept (set_here s.views id v w me) solo in
+              omega (arith, count, still, alone),
         ),
       )
 
@@ -579,7 +613,7 @@ module _ (told : Option Pictures) (p : PlanRecord) where
   pub retires :
       (n id k e : ℕ) (m : At) → k < length p.entries → m.0.live ≡ true → m.0.turn ≡ None → m.0.leaving ≡ None
       → MayServe p m.0 e k
-      → Allows (Holds told p) n id m k (λ word. (word + (2 ^ 64 - 16)) % 2 ^ 64) (retired e (step n k 16 0 none) m)
+      → Allows (Holds told p) n id m k (λ word. (word + (2 ^ 64 - 16)) % 2 ^ 64) (retired p e (step n k 16 0 none) m)
   retires n id k e m there live rests stays may s holds deep me fits =
       let it = is_open s id k e m.0 holds me there rests may in
       retire_at s n id k e m it.turn it.cleared it.reads holds me there live rests stays may fits it.open_ones it.agrees

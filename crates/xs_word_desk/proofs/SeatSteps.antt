@@ -69,7 +69,7 @@ module _ (told : Option Pictures) (p : PlanRecord) where
 
   -- ---- split
 
-  sum_split :
+  pub sum_split :
       (f : View → ℕ) (views : List View) (id : ℕ) (v : View) → get_elem? views id ≡ some v
       → f (with_split v) ≡ f v → f (split_off v) ≡ 0
       → total f (set views id (with_split v) ++ split_off v ∷ []) ≡ total f views
@@ -209,7 +209,7 @@ module _ (told : Option Pictures) (p : PlanRecord) where
 
 -- ---- a number less
 
-times_cons : (n x : ℕ) (xs : List ℕ) → times n (x ∷ xs) ≡ one_if (x == n) + times n xs
+pub times_cons : (n x : ℕ) (xs : List ℕ) → times n (x ∷ xs) ≡ one_if (x == n) + times n xs
 times_cons n x xs = sum_by-cons (λ (m : ℕ). cond {A = ℕ} (m == n) 1 0) x xs ∙ ap (λ m. m + times n xs) (one_if-cond (x == n))
 
 times_without : (m n : ℕ) (l : List ℕ) → 0 < times m l → times n (without m l) + one_if (m == n) ≡ times n l
@@ -242,7 +242,7 @@ length_without m (x ∷ xs) there_is =
 module _ (told : Option Pictures) (p : PlanRecord) where
   -- ---- join
 
-  sum_join :
+  pub sum_join :
       (f : View → ℕ) (views : List View) (id other : ℕ) (v w : View) → get_elem? views id ≡ some v
       → get_elem? (set views id (with_joined v w)) other ≡ some w → f (with_joined v w) ≡ f v + f w → f joined_view ≡ 0
       → total f (set (set views id (with_joined v w)) other joined_view) ≡ total f views
@@ -278,7 +278,7 @@ module _ (told : Option Pictures) (p : PlanRecord) where
   either_of : (a b : ℕ) → 0 < a + b → (0 < a) ⊎ (0 < b)
   either_of a b there_is = elim (eq-zero-or-pos a) [ inl none_there ↦ inr (omega (arith, there_is, none_there)) | inr some_there ↦ inl some_there ]
 
-  ok_joined :
+  pub ok_joined :
       (v w : View) → v.live ≡ true → v.number ≡ 0 → has_number 0 w ≡ 0 → ViewOk p v → ViewOk p w
       → ViewOk p (with_joined v w)
   ok_joined v w live number other ok_v ok_w = record {

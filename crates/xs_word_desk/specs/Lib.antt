@@ -3,4 +3,11 @@ pub mod Sums
 pub mod Seen
 pub mod Rule
 pub mod Changes
+pub mod Own
 pub mod Plays
+pub mod Desks
+pub mod DeskLaw
+pub mod Shown
+pub mod Traced
+pub mod Slots
+pub mod Closing

@@ -10,10 +10,11 @@ use Rattle.xs_core.specs.Calls.{HoldsTile}
 use Rattle.xs_base.specs.declared.memory.Memory.{Memory}
 use Rattle.xs_core.specs.declared.answer.Reading.{Reading}
 use Rattle.xs_core.specs.declared.answer.Reading.TheVariants as reading
-use Rattle.xs_core.specs.Views.{FoundIdle, FoundBusy, FoundLost, FoundInTurn, LeftOpen}
+use Rattle.xs_core.specs.Views.{FoundIdle, FoundBusy, FoundLost, FoundInTurn, LeftOpen, lacking}
 use Rattle.xs_word_desk.specs.declared.view.View.{View}
 use Rattle.xs_word_desk.specs.Words.{Shape, encode}
 use Rattle.xs_word_desk.specs.Seen.{wins, makes, loses, knows, serves, owner, has_number}
+use Rattle.xs_word_desk.specs.Own.{IsOwn}
 use Rattle.xs_word_desk.specs.Rule.{Slot}
 use Rattle.xs_word_desk.specs.Changes.{with_won, with_met, with_known, with_filling, with_made, with_lost, with_turn, with_served, with_cleared}
 
@@ -37,6 +38,8 @@ pub record Found (v : View) (k word : ℕ) : Type 0 where
   -- alone, the seat itself has the alias that it finds taken or given up
   pub alone_taken : IsSolo v → word ≡ 1 → makes k v + loses k v < wins k v
   pub alone_lost : IsSolo v → word ≡ 2 → 0 < loses k v
+  -- and made the one that it finds finished
+  pub alone_ready : IsSolo v → 3 ≤ word → 0 < makes k v
 
 -- the seat after it found an alias that is not idle
 abbrev pub found_as : View → ℕ → ℕ → View
@@ -63,12 +66,14 @@ finished st m word n = n ≡ (with_made m.0 st.word, rest m.1)
 abbrev pub abandoned : Play
 abandoned st m word n = n ≡ (with_lost m.0 st.word, m.1)
 
--- a read of the alias that the seat may serve: of the plan, its own and not served, its source known to be ready
+-- a read of the alias that the seat may serve: of the plan, its own and not served, its source known to be ready. It is
+-- its own also under its own number
 pub record MayServe (p : PlanRecord) (v : View) (e k : ℕ) : Type 0 where
   pub within : e < reads_in p
   pub source : source_at p e ≡ k
   pub mine : serves e v < owner (reader_at p e) (has_number 0 v) v.won
   pub known : 0 < knows k v
+  pub own : IsOwn (reader_at p e) v.number v.won v.lost
 
 -- the seat has a read in turn, with the tile of the read's source, which holds its value; or another seat had one
 abbrev pub turned : Option Pictures → PlanRecord → ℕ → Play
@@ -80,12 +85,22 @@ turned told p e st m word n =
 abbrev pub gave : Play
 gave st m word n = n ≡ (with_turn m.0 None, rest m.1)
 
--- it served a read; after the last one it has the slot out with the tile
-abbrev pub retired : ℕ → Play
-retired e st m word n =
+-- it served a read; after the last one it has the slot out with the tile. Alone, it knows from its list how many are open
+abbrev pub retired : PlanRecord → ℕ → Play
+retired p e st m word n =
     (word / 16 ≡ 1 → (t : Tile) × (n ≡ (with_met (with_served m.0 e (Some st.word)) st.word (LeftOpen 0), (st.word, Some t) ∷ m.1)))
     × (word / 16 ≢ 1 → n ≡ (with_met (with_served m.0 e None) st.word (LeftOpen (word / 16 - 1)), m.1))
-    × (1 ≤ word / 16)
+    × (1 ≤ word / 16) × (word / 16 ≤ reads_in p)
+    × (IsSolo m.0 → word / 16 - 1 ≡ lacking p n.0.served st.word)
+
+-- what the words and the slots tell of any seat: it won nothing twice; alone, it made all that it knows to be ready
+pub record Recalls (v : View) : Type 0 where
+  pub once : (k : ℕ) → wins k v ≤ 1
+  pub alone_made : IsSolo v → (k : ℕ) → 0 < knows k v → 0 < makes k v
+
+-- it looked only for that
+abbrev pub recalled : Play
+recalled st m word n = (n ≡ m) × Recalls m.0
 
 -- it gave the slot back, empty
 abbrev pub cleared : Play

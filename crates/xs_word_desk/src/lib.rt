@@ -2,6 +2,10 @@
 //! at once.
 #![tactic(auto)]
 
+mod cache;
+mod closing;
+mod desk;
+pub mod laws;
 mod opening;
 mod plays;
 mod reads;
@@ -10,3 +14,7 @@ mod seats;
 mod steps;
 mod view;
 mod words;
+
+pub use cache::{Cache, Pass};
+pub use closing::Closed;
+pub use desk::WordDesk;

@@ -2,7 +2,7 @@
 ghost use Rattle.std.specs.Prelude.{ℕ};
 ghost use Rattle.xs_plan.specs.Record.{PlanRecord};
 ghost use Rattle.xs_word_desk.specs.Changes.{no_plan};
-ghost use Rattle.xs_word_desk.specs.Plays.{claimed, looked, took_out, finished, abandoned, turned, gave, retired, cleared};
+ghost use Rattle.xs_word_desk.specs.Plays.{claimed, looked, recalled, took_out, finished, abandoned, turned, gave, retired, cleared};
 
 use crate::view::View;
 use atomic_table::Play;
@@ -22,6 +22,13 @@ pub(crate) struct Looking;
 
 impl Play<Option<TileRef>, View> for Looking {
     ghost then = { looked };
+}
+
+/// Tells only what the words and the slots tell of any seat.
+pub(crate) struct Recalling;
+
+impl Play<Option<TileRef>, View> for Recalling {
+    ghost then = { recalled };
 }
 
 /// Takes out the empty slot of an alias that the seat has claimed.
@@ -77,7 +84,7 @@ impl Play<Option<TileRef>, View> for Giving {
 pub(crate) struct Retiring<E: ReadName>(PhantomData<E>);
 
 impl<E: ReadName> Play<Option<TileRef>, View> for Retiring<E> {
-    ghost then = { retired E.read };
+    ghost then = { retired E.plan E.read };
 }
 
 /// Gives the slot back empty, after the last read.

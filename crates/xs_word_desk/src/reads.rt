@@ -4,10 +4,11 @@ ghost use mathlib.Core.Option.{none};
 ghost use Rattle.atomic_table.specs.Table.{step};
 ghost use Rattle.xs_raster.specs.declared.tile.Tile.{Tile};
 ghost use Rattle.xs_core.specs.Calls.{HoldsTile};
-ghost use Rattle.xs_core.specs.Views.{LeftOpen};
+ghost use Rattle.xs_plan.specs.Reads.{reads_in};
+ghost use Rattle.xs_core.specs.Views.{LeftOpen, lacking};
 ghost use Rattle.xs_core.specs.States.{source_at};
 ghost use Rattle.xs_word_desk.specs.Changes.{AtRest, with_met, with_turn, with_served, with_cleared};
-ghost use Rattle.xs_word_desk.specs.Plays.{MayServe, ReadTold, turned, retired, gave, cleared};
+ghost use Rattle.xs_word_desk.specs.Plays.{IsSolo, MayServe, ReadTold, turned, retired, gave, cleared};
 
 use crate::plays::{Clearing, Giving, ReadName, Retiring, Turning};
 use crate::steps::{Seat, Shared};
@@ -51,10 +52,11 @@ pub(crate) fn retire_as<K: Film, E: ReadName>(
     requires words { shared.now.table_id.words ≡ length shared.now.key.entries }
     requires rests { AtRest seat.old.me.0 }
     requires there { k < length shared.now.key.entries }
-    requires named { e ≡ E.read }
+    requires named { (e ≡ E.read) × (shared.now.key ≡ E.plan) }
     requires may { MayServe shared.now.key seat.old.me.0 e k }
     ensures table { seat.new.table_id ≡ seat.old.table_id }
-    ensures told { retired E.read (step shared.now.table_id.slots k 16 0 none) seat.old.me result seat.new.me }
+    ensures told { retired E.plan E.read (step shared.now.table_id.slots k 16 0 none)
+        seat.old.me result seat.new.me }
 {
     let _ = e;
     shared.fetch_sub::<Retiring<E>>(seat, k as usize, ONE_READ)
@@ -124,7 +126,8 @@ pub(crate) fn let_go<K: Film>(shared: &Shared<K>, seat: &mut Seat, k: u32)
 }
 
 /// Serves a read of an alias, and answers how many reads of the alias are open after it. At 0 the tile is let go.
-pub(crate) fn retire<K: Film>(shared: &Shared<K>, seat: &mut Seat, k: u32, e: u32) -> u64
+pub(crate) fn retire<K: Film>(shared: &Shared<K>, seat: &mut Seat, k: u32, e: u32) -> u32
+    requires few { reads_in shared.now.key < 2 ^ 32 }
     requires table { seat.old.table_id ≡ shared.now.table_id }
     requires words { shared.now.table_id.words ≡ length shared.now.key.entries }
     requires rests { AtRest seat.old.me.0 }
@@ -133,9 +136,10 @@ pub(crate) fn retire<K: Film>(shared: &Shared<K>, seat: &mut Seat, k: u32, e: u3
     requires may { MayServe shared.now.key seat.old.me.0 e k }
     ensures table { seat.new.table_id ≡ seat.old.table_id }
     ensures told { seat.new.me ≡ (with_met (with_served seat.old.me.0 e None) k (LeftOpen result), []) }
+    ensures alone { IsSolo seat.old.me.0 → result ≡ lacking shared.now.key seat.new.me.0.served k }
 {
     let word = retire_as::<K, Brand>(shared, seat, k, e);
-    let left = word / ONE_READ - 1;
+    let left = (word / ONE_READ - 1) as u32;
     if left == 0 {
         let_go(shared, seat, k);
     }

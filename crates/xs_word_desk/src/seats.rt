@@ -1,5 +1,6 @@
 //! Seats that are split off and joined.
-ghost use Rattle.std.specs.Prelude.{◌≡◌, ◌≢◌, ◌<◌, [], true, length};
+ghost use Rattle.std.specs.Prelude.{◌≡◌, ◌≢◌, ◌<◌, ◌≤◌, ◌+◌, ℕ, [], true, length};
+ghost use Rattle.xs_word_desk.specs.Seen.{wins, makes, loses};
 ghost use Rattle.xs_word_desk.specs.Changes.{AtRest, with_split, split_off, with_joined, joined_view};
 
 use crate::steps::{Seat, Shared};
@@ -39,7 +40,7 @@ pub(crate) fn split<K: Film>(shared: &Shared<K>, seat: &mut Seat) -> Seat
     shared.split_seat::<Splitting>(seat)
 }
 
-/// Joins a seat to the chief, which gets its entries and what it knows.
+/// Joins a seat that has nothing claimed to the chief, which gets its entries and what it knows.
 pub(crate) fn join<K: Film>(shared: &Shared<K>, seat: &mut Seat, other: Seat)
     requires table { (seat.old.table_id ≡ shared.now.table_id) × (other.table_id ≡ shared.now.table_id) }
     requires words { shared.now.table_id.words ≡ length shared.now.key.entries }
@@ -48,6 +49,7 @@ pub(crate) fn join<K: Film>(shared: &Shared<K>, seat: &mut Seat, other: Seat)
     requires empty { other.me.1 ≡ [] }
     requires chief { seat.old.me.0.number ≡ 0 }
     requires other { other.me.0.number ≢ 0 }
+    requires settled { (k : ℕ) → wins k other.me.0 ≤ makes k other.me.0 + loses k other.me.0 }
     ensures table { seat.new.table_id ≡ seat.old.table_id }
     ensures both { seat.new.me ≡ (with_joined seat.old.me.0 other.me.0, seat.old.me.1) }
 {

@@ -7,9 +7,9 @@ ghost use Rattle.atomic_table.specs.Table.{step};
 ghost use Rattle.xs_word_desk.specs.Words.{Finished, encode};
 ghost use Rattle.xs_word_desk.specs.Seen.{wins, makes, loses};
 ghost use Rattle.xs_word_desk.specs.Changes.{AtRest, with_made, with_lost};
-ghost use Rattle.xs_word_desk.specs.Plays.{claimed, looked};
+ghost use Rattle.xs_word_desk.specs.Plays.{Recalls, claimed, looked};
 
-use crate::plays::{Abandoning, Claiming, Finishing, Looking, TakingOut};
+use crate::plays::{Abandoning, Claiming, Finishing, Looking, Recalling, TakingOut};
 use crate::rule::Rule;
 use crate::view::View;
 use crate::words::{GIVEN_UP, TAKEN, UNCLAIMED, finished};
@@ -43,6 +43,17 @@ pub(crate) fn look<K: Film>(shared: &Shared<K>, seat: &mut Seat, k: u32) -> u64
     ensures told { looked (step shared.now.table_id.slots k 0 0 none) seat.old.me result seat.new.me }
 {
     shared.load::<Looking>(seat, k as usize)
+}
+
+/// Looks only for what the words and the slots tell of any seat.
+pub(crate) fn recall<K: Film>(shared: &Shared<K>, seat: &mut Seat)
+    requires table { seat.old.table_id ≡ shared.now.table_id }
+    requires words { shared.now.table_id.words ≡ length shared.now.key.entries }
+    requires some_there { 0 < length shared.now.key.entries }
+    ensures table { seat.new.table_id ≡ seat.old.table_id }
+    ensures told { (seat.new.me ≡ seat.old.me) × Recalls seat.old.me.0 }
+{
+    shared.load::<Recalling>(seat, 0);
 }
 
 /// Puts the tile of an alias that the seat has claimed, which so many reads read.

@@ -9,9 +9,8 @@ use Rattle.xs_worker.specs.Piles.{last_or}
 use Rattle.xs_worker.specs.Claims.{tagged, Fits, IsAble}
 use Rattle.xs_worker.specs.Steps.{StepTells}
 use Rattle.xs_worker.specs.Advances.{Standing, StandsAt, lost_after, HasFinished, IsBlocked, HasLost, FellShort}
-use Rattle.xs_worker.proofs.GrewLemmas.{went_nowhere}
+use Rattle.xs_worker.proofs.GrewLemmas.{stays_same, went_nowhere}
 use Rattle.xs_worker.proofs.RunLemmas.{grew_gone, able_gone, lost_more}
-use Rattle.xs_worker.proofs.WorkLemmas.{stays_same}
 
 some_not_none : (k : ℕ) → Some k ≢ None
 some_not_none k is = cc

@@ -1,5 +1,5 @@
 -- Lemmas on what the calls of a worker add
-use Rattle.std.proofs.Common.{◌≡◌, ◌<◌, ◌+◌, ℕ, Option, Some, None, List, [], ◌∷◌, ◌++◌, length, sym, ap, subst, ◌∙◌, inl, inr, arith, append_assoc}
+use Rattle.std.proofs.Common.{◌≡◌, ◌<◌, ◌+◌, ℕ, Option, Some, None, List, [], ◌∷◌, ◌++◌, length, refl, sym, ap, subst, ◌∙◌, inl, inr, arith, append_assoc}
 use Rattle.std.proofs.lemmas.Bool.{cases_eq, cases_lt}
 use Rattle.std.proofs.lemmas.List.{append-nil}
 use Rattle.xs_plan.specs.declared.job.Reader.TheVariants.{Port}
@@ -15,12 +15,49 @@ use Rattle.xs_worker.proofs.Lists.{times-same, times-other, times-found, times-o
 -- ---- two calls
 
 -- what is added and then more
-pub appended :
+appended :
     (number other : ℕ) → other ≡ number → (old mid new : List Signed) (a b : List ℕ) → mid ≡ old ++ tagged number a
     → new ≡ mid ++ tagged other b → new ≡ old ++ tagged number (a ++ b)
 appended number other same old mid new a b first second =
     second ∙ ap (λ l. l ++ tagged other b) first ∙ append_assoc old (tagged number a) (tagged other b)
     ∙ ap (λ n. old ++ (tagged number a ++ tagged n b)) same ∙ ap (λ l. old ++ l) (sym (tagged-append number a b))
+
+-- what a call adds and then another
+pub adds_then :
+    (v w x : DeskView) (won made lost served more_won more_made more_lost more_served : List ℕ)
+    → Adds v w (tagged v.number won) (tagged v.number made) (tagged v.number lost) (tagged v.number served)
+    → Adds w x (tagged w.number more_won) (tagged w.number more_made) (tagged w.number more_lost) (tagged w.number more_served)
+    → Adds v x (tagged v.number (won ++ more_won)) (tagged v.number (made ++ more_made)) (tagged v.number (lost ++ more_lost))
+    (tagged v.number (served ++ more_served))
+adds_then v w x won made lost served more_won more_made more_lost more_served a b = record {
+  home = b.home ∙ a.home;
+  number = b.number ∙ a.number;
+  solo = b.solo ∙ a.solo;
+  won = appended v.number w.number a.number v.won w.won x.won won more_won a.won b.won;
+  made = appended v.number w.number a.number v.made w.made x.made made more_made a.made b.made;
+  lost = appended v.number w.number a.number v.lost w.lost x.lost lost more_lost a.lost b.lost;
+  served = appended v.number w.number a.number v.served w.served x.served served more_served a.served b.served;
+  knows = λ k known. b.knows k (a.knows k known);
+  more = a.more ++ b.more;
+  met = b.met ∙ ap (λ l. l ++ b.more) a.met ∙ append_assoc v.met a.more b.more;
+}
+
+pub stays_same : (v : DeskView) → Stays v v
+stays_same v = record {
+  home = refl;
+  number = refl;
+  solo = refl;
+  won = sym (append-nil v.won);
+  made = sym (append-nil v.made);
+  lost = sym (append-nil v.lost);
+  served = sym (append-nil v.served);
+  knows = λ k known. known;
+  more = [];
+  met = sym (append-nil v.met);
+}
+
+pub stays_then : (v w x : DeskView) → Stays v w → Stays w x → Stays v x
+stays_then v w x a b = adds_then v w x [] [] [] [] [] [] [] [] a b
 
 pub grew_then :
     (p : PlanRecord) (targets : List ℕ) (v w x : DeskView) (b c d more gone : List ℕ) → Grew p targets v w b c [] []
@@ -29,18 +66,7 @@ grew_then p targets v w x b c d more gone g h = record {
   won = g.won ++ h.won;
   made = g.made ++ h.made;
   served = g.served ++ h.served;
-  adds = record {
-    home = h.adds.home ∙ g.adds.home;
-    number = h.adds.number ∙ g.adds.number;
-    solo = h.adds.solo ∙ g.adds.solo;
-    won = appended v.number w.number g.adds.number v.won w.won x.won g.won h.won g.adds.won h.adds.won;
-    made = appended v.number w.number g.adds.number v.made w.made x.made g.made h.made g.adds.made h.adds.made;
-    lost = appended v.number w.number g.adds.number v.lost w.lost x.lost [] gone g.adds.lost h.adds.lost;
-    served = appended v.number w.number g.adds.number v.served w.served x.served g.served h.served g.adds.served h.adds.served;
-    knows = λ k known. h.adds.knows k (g.adds.knows k known);
-    more = g.adds.more ++ h.adds.more;
-    met = h.adds.met ∙ ap (λ l. l ++ h.adds.more) g.adds.met ∙ append_assoc v.met g.adds.more h.adds.more;
-  };
+  adds = adds_then v w x g.won g.made [] g.served h.won h.made gone h.served g.adds h.adds;
   bench = h.bench ∙ ap (λ l. l ++ (h.made ++ more)) g.bench ∙ benches;
   reached = reached;
   ports = ports;

@@ -5,5 +5,7 @@ pub mod StepLemmas
 pub mod WorkLemmas
 pub mod RunLemmas
 pub mod AdvanceLemmas
+pub mod KindLemmas
 pub mod SectionLemmas
+pub mod HeldLemmas
 pub mod Columns

@@ -13,10 +13,10 @@ use Rattle.xs_worker.specs.Reading.{IsReached}
 use Rattle.xs_worker.specs.Claims.{tagged, Fits, Grew, AreDrawn, IsAble, is_lost, WasLost, work_left}
 use Rattle.xs_worker.specs.Steps.{Went, StepTells}
 use Rattle.xs_worker.proofs.Lists.{times-same, times-other, times-more}
-use Rattle.xs_worker.proofs.GrewLemmas.{appended, none_of, fits_after, went_nowhere}
+use Rattle.xs_worker.proofs.GrewLemmas.{adds_then, stays_same, none_of, fits_after, went_nowhere}
 use Rattle.xs_worker.proofs.ReadLemmas.{reached_target}
 use Rattle.xs_worker.proofs.StepLemmas.{step_then, went_then, meetings-grow}
-use Rattle.xs_worker.proofs.WorkLemmas.{stays_same, drawn_then}
+use Rattle.xs_worker.proofs.WorkLemmas.{drawn_then}
 
 -- ---- giving up
 
@@ -57,18 +57,7 @@ gave_more p targets stack v (y ∷ rest) w new x k gave top adds same =
     (record {
       given = gave.given ++ y ∷ [];
       all = append_assoc gave.given (y ∷ []) rest ∙ gave.all;
-      adds = record {
-        home = here.home ∙ gave.adds.home;
-        number = here.number ∙ gave.adds.number;
-        solo = here.solo ∙ gave.adds.solo;
-        won = here.won ∙ append-nil w.won ∙ gave.adds.won;
-        made = here.made ∙ append-nil w.made ∙ gave.adds.made;
-        lost = appended v.number w.number gave.adds.number v.lost w.lost x.lost gave.given (y ∷ []) gave.adds.lost here.lost;
-        served = here.served ∙ append-nil w.served ∙ gave.adds.served;
-        knows = λ j known. here.knows j (gave.adds.knows j known);
-        more = gave.adds.more ++ here.more;
-        met = here.met ∙ ap (λ l. l ++ here.more) gave.adds.met ∙ append_assoc v.met gave.adds.more here.more;
-      };
+      adds = adds_then v w x [] [] gave.given [] [] [] (y ∷ []) [] gave.adds here;
       fits = top_given p targets w x y rest gave.fits here;
     })
 
@@ -231,18 +220,7 @@ grew_gone p targets gone v x w b c more g a = record {
   won = g.won;
   made = g.made;
   served = g.served;
-  adds = record {
-    home = a.home ∙ g.adds.home;
-    number = a.number ∙ g.adds.number;
-    solo = a.solo ∙ g.adds.solo;
-    won = a.won ∙ append-nil x.won ∙ g.adds.won;
-    made = a.made ∙ append-nil x.made ∙ g.adds.made;
-    lost = appended v.number x.number g.adds.number v.lost x.lost w.lost [] gone g.adds.lost a.lost;
-    served = a.served ∙ append-nil x.served ∙ g.adds.served;
-    knows = λ j known. a.knows j (g.adds.knows j known);
-    more = g.adds.more ++ a.more;
-    met = a.met ∙ ap (λ l. l ++ a.more) g.adds.met ∙ append_assoc v.met g.adds.more a.more;
-  };
+  adds = simp append-nil at (adds_then v x w g.won g.made [] g.served [] [] gone [] g.adds a);
   bench = g.bench;
   reached = g.reached;
   ports = g.ports;

@@ -1,5 +1,5 @@
 -- Lemmas on what a worker does at an alias
-use Rattle.std.proofs.Common.{◌≡◌, ◌<◌, ◌≤◌, ℕ, ◌==◌, cond, Option, Some, None, List, [], ◌∷◌, ◌++◌, length, slice_get, refl, sym, ap, subst, ◌∙◌, inl, inr, arith, append_assoc}
+use Rattle.std.proofs.Common.{◌≡◌, ◌<◌, ◌≤◌, ℕ, ◌==◌, cond, Option, Some, None, List, [], ◌∷◌, ◌++◌, length, slice_get, refl, sym, ap, subst, ◌∙◌, inl, inr, arith}
 use Rattle.std.proofs.lemmas.Bool.{cases_eq, cases_lt}
 use Rattle.std.proofs.lemmas.List.{append-nil}
 use Rattle.std.proofs.lemmas.List.Sums.{sum_by-append}
@@ -20,22 +20,8 @@ use Rattle.xs_worker.specs.declared.step.Step.{Step}
 use Rattle.xs_worker.specs.Steps.{Went, WentShort, StepTells, WasInTurn, WasTaken}
 use Rattle.xs_worker.proofs.Lists.{times-same, times-other, times-found, entries-grown, entries-tagged}
 use Rattle.xs_worker.proofs.ReadLemmas.{reached_then}
-use Rattle.xs_worker.proofs.GrewLemmas.{appended, went_nowhere, went_won, went_made}
+use Rattle.xs_worker.proofs.GrewLemmas.{adds_then, stays_then, went_nowhere, went_won, went_made}
 use Rattle.xs_worker.proofs.StepLemmas.{step_then, left-same, left-made, left-won, busy_claim, busy_turn, taken_then, lost_claim}
-
-pub stays_same : (v : DeskView) → Stays v v
-stays_same v = record {
-  home = refl;
-  number = refl;
-  solo = refl;
-  won = sym (append-nil v.won);
-  made = sym (append-nil v.made);
-  lost = sym (append-nil v.lost);
-  served = sym (append-nil v.served);
-  knows = λ k known. known;
-  more = [];
-  met = sym (append-nil v.met);
-}
 
 -- ---- the last claimed alias
 
@@ -160,37 +146,10 @@ pub concluded :
     (v a b w : DeskView) (k : ℕ) (first second : List ℕ) → Adds v a [] (signed v.number k ∷ []) [] []
     → Adds a b [] [] [] (tagged a.number first) → Adds b w [] [] [] (tagged b.number second)
     → Adds v w [] (signed v.number k ∷ []) [] (tagged v.number (first ++ second))
-concluded v a b w k first second one two three = record {
-  home = three.home ∙ two.home ∙ one.home;
-  number = three.number ∙ two.number ∙ one.number;
-  solo = three.solo ∙ two.solo ∙ one.solo;
-  won = three.won ∙ append-nil b.won ∙ two.won ∙ append-nil a.won ∙ one.won;
-  made = three.made ∙ append-nil b.made ∙ two.made ∙ append-nil a.made ∙ one.made;
-  lost = three.lost ∙ append-nil b.lost ∙ two.lost ∙ append-nil a.lost ∙ one.lost;
-  served = appended v.number b.number (two.number ∙ one.number) v.served b.served w.served first second
-      (two.served ∙ ap (λ l. l ++ tagged a.number first) (one.served ∙ append-nil v.served)
-      ∙ ap (λ n. v.served ++ tagged n first) one.number) three.served;
-  knows = λ j known. three.knows j (two.knows j (one.knows j known));
-  more = (one.more ++ two.more) ++ three.more;
-  met = three.met ∙ ap (λ l. l ++ three.more) (two.met ∙ ap (λ l. l ++ two.more) one.met ∙ append_assoc v.met one.more two.more)
-      ∙ append_assoc v.met (one.more ++ two.more) three.more;
-}
+concluded v a b w k first second one two three =
+    adds_then v b w [] (k ∷ []) [] first [] [] [] second (adds_then v a b [] (k ∷ []) [] [] [] [] [] first one two) three
 
 -- ---- tiles
-
-pub stays_then : (v w x : DeskView) → Stays v w → Stays w x → Stays v x
-stays_then v w x a b = record {
-  home = b.home ∙ a.home;
-  number = b.number ∙ a.number;
-  solo = b.solo ∙ a.solo;
-  won = b.won ∙ append-nil w.won ∙ a.won;
-  made = b.made ∙ append-nil w.made ∙ a.made;
-  lost = b.lost ∙ append-nil w.lost ∙ a.lost;
-  served = b.served ∙ append-nil w.served ∙ a.served;
-  knows = λ k known. b.knows k (a.knows k known);
-  more = a.more ++ b.more;
-  met = b.met ∙ ap (λ l. l ++ b.more) a.met ∙ append_assoc v.met a.more b.more;
-}
 
 -- a turn after a call that met nothing in its lists
 pub made_turn :
@@ -260,3 +219,13 @@ pub step_after :
     → StepTells p targets stack v b s new x d
 step_after p targets stack others v b mid w c s new x d same first second =
     step_then p targets stack v b mid w c s new x d first.0 first.1 (subst (λ ts. StepTells p ts mid w c s new x d) same second)
+
+-- what was known stays known
+pub step_knows :
+    (p : PlanRecord) (targets stack : List ℕ) (v : DeskView) (b : List ℕ) (s : Step) (new : List ℕ) (w : DeskView) (c : List ℕ)
+    → StepTells p targets stack v b s new w c → (k : ℕ) → Knows v k → Knows w k
+step_knows p targets stack v b step.Moved new w c told = told.0.grew.adds.knows
+step_knows p targets stack v b step.Ready new w c told = told.0.grew.adds.knows
+step_knows p targets stack v b (step.Blocked k) new w c told = told.0.grew.adds.knows
+step_knows p targets stack v b (step.Lost k) new w c told = told.0.grew.adds.knows
+step_knows p targets stack v b step.Short new w c told = told.went.grew.adds.knows

@@ -88,6 +88,29 @@ impl Work {
         }
     }
 
+    /// Claims the inputs that the alias on the top reads, that at port 0 first, until one is not known to be ready.
+    pub(crate) fn inputs<K: Film, D: Desk<K>>(&mut self, p: &Plan, desk: &mut D, k: u32) -> Step
+        requires plan { D.plan desk.old ≡ p.now }
+        requires tells { TellsReads p.now }
+        requires fits { Fits p.now self.old.targets.items self.old.stack.items (D.view desk.old) }
+        requires top { top_of self.old.stack.items ≡ Some k }
+        ensures plan { D.plan desk.new ≡ p.now }
+        ensures same { (self.new.targets.items ≡ self.old.targets.items) × (self.new.next ≡ self.old.next) }
+        ensures told { (b : List ℕ)
+            → StepTells p.now self.old.targets.items self.old.stack.items (D.view desk.old) b
+            result self.new.stack.items (D.view desk.new) b }
+        ensures kept { result ≡ Step.Ready → self.new.stack.items ≡ self.old.stack.items }
+        ensures first { result ≡ Step.Ready → (i : ℕ) → slice_get (entry_at p.now.entries k).inputs 0 ≡ Some i
+            → Knows (D.view desk.new) i }
+        ensures second { result ≡ Step.Ready → (i : ℕ) → slice_get (entry_at p.now.entries k).inputs 1 ≡ Some i
+            → Knows (D.view desk.new) i }
+    {
+        match self.input(p, desk, k, 0) {
+            Step::Ready => self.input(p, desk, k, 1),
+            step => step,
+        }
+    }
+
     /// Puts the tile of the alias on the top, serves its reads at ports and takes it off.
     pub(crate) fn conclude<K: Film, D: Desk<K>>(
         &mut self,
@@ -148,35 +171,6 @@ impl Work {
             Computed::Short => Step::Short,
         }
     }
-    /// Leads the alias on the top on, whose input at port 0 is known to be ready.
-    pub(crate) fn lead_second<K: Film, D: Desk<K>, B: Bench>(
-        &mut self,
-        alloc: Global,
-        p: &Plan,
-        desk: &mut D,
-        bench: &mut B,
-        d: &Drawings<K>,
-        k: u32,
-    ) -> Step
-        requires plan { D.plan desk.old ≡ p.now }
-        requires tells { TellsReads p.now }
-        requires fits { Fits p.now self.old.targets.items self.old.stack.items (D.view desk.old) }
-        requires top { top_of self.old.stack.items ≡ Some k }
-        requires first { (i : ℕ) → slice_get (entry_at p.now.entries k).inputs 0 ≡ Some i
-            → Knows (D.view desk.old) i }
-        requires drawn { AreDrawn p.now self.old.targets.items self.old.stack.items (D.view desk.old) d.now }
-        ensures plan { D.plan desk.new ≡ p.now }
-        ensures same { (self.new.targets.items ≡ self.old.targets.items) × (self.new.next ≡ self.old.next) }
-        ensures told { StepTells p.now self.old.targets.items self.old.stack.items (D.view desk.old) (B.made bench.old)
-            result self.new.stack.items (D.view desk.new) (B.made bench.new) }
-        ensures never { result ≢ Step.Ready }
-    {
-        match self.input(p, desk, k, 1) {
-            Step::Ready => self.make(alloc, p, desk, bench, d, k),
-            step => step,
-        }
-    }
-
     /// Leads the alias on the top on: claims an input, or makes it where all inputs are known to be ready.
     pub(crate) fn lead<K: Film, D: Desk<K>, B: Bench>(
         &mut self,
@@ -198,8 +192,8 @@ impl Work {
             result self.new.stack.items (D.view desk.new) (B.made bench.new) }
         ensures never { result ≢ Step.Ready }
     {
-        match self.input(p, desk, k, 0) {
-            Step::Ready => self.lead_second(alloc, p, desk, bench, d, k),
+        match self.inputs(p, desk, k) {
+            Step::Ready => self.make(alloc, p, desk, bench, d, k),
             step => step,
         }
     }

@@ -2,8 +2,9 @@ use Rattle.std.proofs.Common.{ℕ, ◌∷◌, ◌∙◌, [], None, Some, List, a
 use mathlib.Core.Option.{none}
 use Rattle.atomic_table.specs.Table.{Allows, step, rest}
 use Rattle.xs_word_desk.specs.Plays.{At, cleared}
-use Rattle.xs_word_desk.specs.Rule.{Slot, Holds}
-use Rattle.xs_word_desk.proofs.ReadSteps.{clears}
+use Rattle.xs_word_desk.specs.Rule.{Slot}
+use Rattle.xs_word_desk.specs.Traced.{Traced}
+use Rattle.xs_word_desk.proofs.Lifts.{clears_traced}
 use Rattle.xs_word_desk.proofs.SlotLemmas.{with_rest}
 use Rattle.xs_word_desk.proofs.reads.let_go.Goals as goal
 
@@ -19,9 +20,9 @@ fetch_or-requires g c =
       c.exchange.ensures.0 ∙ c.requires.table,
       omega (arith, c.requires.there, c.requires.words),
       subst
-          (λ (m : At). Allows (Holds g.K.Film.pictures c.args.shared.now.key) c.args.shared.now.table_id.slots c.exchange.new.seat.id m
+          (λ (m : At). Allows (Traced g.K.Film.pictures c.args.shared.now.key) c.args.shared.now.table_id.slots c.exchange.new.seat.id m
           c.args.k (λ word. bit_or word 8) (cleared (step c.args.shared.now.table_id.slots c.args.k 8 0 none) m))
           (sym seat)
-          (clears g.K.Film.pictures c.args.shared.now.key c.args.shared.now.table_id.slots c.exchange.new.seat.id c.args.k
+          (clears_traced g.K.Film.pictures c.args.shared.now.key c.args.shared.now.table_id.slots c.exchange.new.seat.id c.args.k
           c.args.seat.now.me.0 [] c.requires.there c.requires.leaving),
     )

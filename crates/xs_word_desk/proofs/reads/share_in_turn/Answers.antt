@@ -4,8 +4,9 @@ use Rattle.atomic_table.specs.Table.{Allows, step, rest}
 use Rattle.xs_raster.specs.declared.tile.Tile.{Tile}
 use Rattle.xs_core.specs.Calls.{HoldsTile}
 use Rattle.xs_word_desk.specs.Plays.{At, gave}
-use Rattle.xs_word_desk.specs.Rule.{Slot, Holds}
-use Rattle.xs_word_desk.proofs.ReadSteps.{gives_it}
+use Rattle.xs_word_desk.specs.Rule.{Slot}
+use Rattle.xs_word_desk.specs.Traced.{Traced}
+use Rattle.xs_word_desk.proofs.Lifts.{gives_traced}
 use Rattle.xs_word_desk.proofs.WordLemmas.{all_but_turn}
 use Rattle.xs_word_desk.proofs.SlotLemmas.{same_tile, with_rest}
 use Rattle.xs_word_desk.proofs.reads.share_in_turn.Goals as goal
@@ -26,11 +27,11 @@ fetch_and-requires g c =
       c.exchange.ensures.0 ∙ before.0 ∙ c.requires.table,
       omega (arith, c.requires.there, c.requires.words),
       subst
-          (λ (m : At). Allows (Holds g.K.Film.pictures c.args.shared.now.key) c.args.shared.now.table_id.slots c.exchange.new.seat.id m
+          (λ (m : At). Allows (Traced g.K.Film.pictures c.args.shared.now.key) c.args.shared.now.table_id.slots c.exchange.new.seat.id m
           c.args.k (λ word. bit_and word all_but_turn)
           (gave (step c.args.shared.now.table_id.slots c.args.k all_but_turn 0 none) m))
           (sym seat)
-          (gives_it g.K.Film.pictures c.args.shared.now.key c.args.shared.now.table_id.slots c.exchange.new.seat.id c.args.k
-          c.requires.turn.0 c.args.seat.now.me.0 tile [] c.requires.there c.requires.turn.1 c.requires.turn.2
+          (gives_traced g.K.Film.pictures c.args.shared.now.key c.args.shared.now.table_id.slots c.exchange.new.seat.id c.args.k
+          c.args.seat.now.me.0 [] c.requires.there c.requires.turn.0 tile c.requires.turn.1 c.requires.turn.2
           (subst (HoldsTile g.K.Film.pictures c.args.shared.now.key c.args.k) (sym is) c.requires.out.2)),
     )

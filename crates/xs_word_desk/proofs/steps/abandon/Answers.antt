@@ -1,11 +1,11 @@
 use Rattle.std.proofs.Common.{arith}
-use Rattle.xs_word_desk.proofs.ClaimSteps.{abandons}
+use Rattle.xs_word_desk.proofs.Lifts.{abandons_traced}
 use Rattle.xs_word_desk.proofs.steps.abandon.Goals as goal
 
 pub swap-requires : goal.swap-requires
 swap-requires g c = (
   c.requires.table,
   omega (arith, c.requires.there, c.requires.words),
-  abandons g.K.Film.pictures c.args.shared.now.key c.args.shared.now.table_id.slots c.args.seat.now.id c.args.k
+  abandons_traced g.K.Film.pictures c.args.shared.now.key c.args.shared.now.table_id.slots c.args.seat.now.id c.args.k
       c.args.seat.now.me c.requires.there c.requires.rests.live c.requires.rests.filling c.requires.claimed,
 )

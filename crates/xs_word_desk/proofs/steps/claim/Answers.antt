@@ -1,11 +1,11 @@
 use Rattle.std.proofs.Common.{arith}
-use Rattle.xs_word_desk.proofs.ClaimSteps.{claims}
+use Rattle.xs_word_desk.proofs.Lifts.{claims_traced}
 use Rattle.xs_word_desk.proofs.steps.claim.Goals as goal
 
 pub compare_exchange-requires : goal.compare_exchange-requires
 compare_exchange-requires g c = (
   c.requires.table,
   omega (arith, c.requires.there, c.requires.words),
-  claims g.K.Film.pictures c.args.shared.now.key c.args.shared.now.table_id.slots c.args.seat.now.id c.args.k
+  claims_traced g.K.Film.pictures c.args.shared.now.key c.args.shared.now.table_id.slots c.args.seat.now.id c.args.k
       c.args.seat.now.me c.requires.there c.requires.rests.live,
 )

@@ -4,7 +4,8 @@ use Rattle.xs_raster.specs.declared.tile.Tile.{Tile}
 use Rattle.xs_core.specs.Calls.{HoldsTile}
 use Rattle.xs_worker.proofs.GrewLemmas.{none_of}
 use Rattle.xs_worker.proofs.Lists.{times-one}
-use Rattle.xs_worker.proofs.WorkLemmas.{may_after, stays_same, stays_then, turn_then}
+use Rattle.xs_worker.proofs.GrewLemmas.{stays_same, stays_then}
+use Rattle.xs_worker.proofs.WorkLemmas.{may_after, turn_then}
 use Rattle.xs_worker.proofs.compute.compute.Goals as goal
 
 pub input_at-requires-clause-may : goal.input_at-requires-clause-may

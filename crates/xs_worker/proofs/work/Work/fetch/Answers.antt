@@ -1,7 +1,8 @@
 use Rattle.std.proofs.Common.{◌∷◌, [], ◌∙◌, ap, sym, arith}
 use Rattle.std.proofs.lemmas.List.{append-nil}
 use Rattle.xs_worker.proofs.GrewLemmas.{none_of}
-use Rattle.xs_worker.proofs.WorkLemmas.{stays_same, short_nowhere, fetched_won, fetched_busy, fetched_ready, fetched_lost}
+use Rattle.xs_worker.proofs.GrewLemmas.{stays_same}
+use Rattle.xs_worker.proofs.WorkLemmas.{short_nowhere, fetched_won, fetched_busy, fetched_ready, fetched_lost}
 use Rattle.xs_worker.proofs.work.Work.fetch.Goals as goal
 
 pub returns-then-is_err-clause-told : goal.returns-then-is_err-clause-told

@@ -1,7 +1,8 @@
 use Rattle.std.proofs.Common.{◌<◌, length, sym, subst, refl}
 use Rattle.xs_plan.specs.Record.{PlanRecord}
 use Rattle.xs_worker.specs.Reading.{IsReached}
-use Rattle.xs_worker.proofs.WorkLemmas.{stays_same, input_fits, fetched_ready}
+use Rattle.xs_worker.proofs.GrewLemmas.{stays_same}
+use Rattle.xs_worker.proofs.WorkLemmas.{input_fits, fetched_ready}
 use Rattle.xs_worker.proofs.work.Work.input.Goals as goal
 
 pub fetch-requires-clause-reached : goal.fetch-requires-clause-reached

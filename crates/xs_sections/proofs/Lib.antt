@@ -1,0 +1,4 @@
+pub mod DrawnLemmas
+pub mod LeadLemmas
+pub mod OrderLemmas
+pub mod RowLemmas

@@ -1,0 +1,17 @@
+//! The sections of a plan at a seat that is alone: one worker leads each to its end, and then its rows are gathered, in
+//! any order.
+#![tactic(auto)]
+
+#[cfg(test)]
+mod alone;
+mod checks;
+mod order;
+#[cfg(test)]
+mod plans;
+mod rows;
+mod section;
+
+pub use checks::all_drawn;
+pub use order::{Order, rows_of};
+pub use rows::{gather, gather_alone};
+pub use section::lead;
