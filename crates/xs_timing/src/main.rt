@@ -4,6 +4,7 @@
 
 mod blurs;
 mod checking;
+mod dry;
 mod frame;
 mod kernels;
 mod plans;
@@ -12,6 +13,7 @@ mod script;
 mod sharing;
 mod tiles;
 
+use dry::{Rows, rows_of};
 use std::process::ExitCode;
 use std::rt::{Clock, Files};
 use std::{env, io};
@@ -25,6 +27,9 @@ xs_timing frame: a frame of 1920 by 1080 of four columns, by the plain evaluator
 xs_timing check: checking scenes at the limits, and ones with faults
 xs_timing needs: the drawings of a row where nodes and nested sheets are shared
 xs_timing plan: building a plan at the limits, beside filling 600 MiB, and the most memory after each
+xs_timing dry-most: planning at the limits, beside building as many aliases, and the most memory after each
+xs_timing dry SCENE FROM TO: planning rows of a scene, the least of five times, and the most memory
+xs_timing dry-lines SCENE FROM TO: listing their demand, beside writing the same bytes; told on standard error
 xs_timing decode MIB: reading a scene text of so many MiB without a blank
 xs_timing decode-indented MIB: reading one that is indented
 xs_timing decode-line MIB: reading one on one line
@@ -52,13 +57,29 @@ fn time_part<R: Print + Clock + Files + AllocGlobal>(rt: &R, part: &str) -> io::
         "check" => checking::time(rt, rt.alloc())?,
         "needs" => sharing::time_needs(rt, rt.alloc())?,
         "plan" => plans::time(rt, rt.alloc())?,
+        "dry-most" => dry::time_most(rt, rt.alloc())?,
+        _ => return Ok(false),
+    }
+    Ok(true)
+}
+
+/// Times the demand of rows of a scene; false where no part has this name.
+fn time_rows<R: Print + Eprint + Clock + Files + AllocGlobal>(
+    rt: &R,
+    part: &str,
+    scene: &str,
+    rows: Rows,
+) -> io::Result<bool> {
+    match part {
+        "dry" => dry::time_file(rt, rt.alloc(), scene, rows)?,
+        "dry-lines" => dry::time_lines(rt, scene, rows)?,
         _ => return Ok(false),
     }
     Ok(true)
 }
 
 /// Times what the words name; false where they name no part.
-fn time_words<R: Print + Clock + Files + AllocGlobal>(
+fn time_words<R: Print + Eprint + Clock + Files + AllocGlobal>(
     rt: &R,
     words: &[String],
 ) -> io::Result<bool> {
@@ -67,6 +88,10 @@ fn time_words<R: Print + Clock + Files + AllocGlobal>(
         [part, size] => match size.as_str().parse::<u16>() {
             Ok(size) => time_text(rt, part.as_str(), size),
             Err(_) => Ok(false),
+        },
+        [part, scene, from, to] => match rows_of(from.as_str(), to.as_str()) {
+            Some(rows) => time_rows(rt, part.as_str(), scene.as_str(), rows),
+            None => Ok(false),
         },
         _ => Ok(false),
     }

@@ -200,7 +200,7 @@ fn fill(alloc: Global) -> Result<usize, AllocError> {
 }
 
 /// Prints the most memory that the process has had.
-fn print_peak<R: Files + Print + AllocGlobal>(rt: &R) -> io::Result<()> {
+pub fn print_peak<R: Files + Print + AllocGlobal>(rt: &R) -> io::Result<()> {
     let status = fs::read_to_string(rt, "/proc/self/status")?;
     for line in status.lines() {
         if line.starts_with("VmHWM") {
@@ -219,7 +219,7 @@ fn time_fill(rt: &(impl Print + Clock), alloc: Global) -> io::Result<()> {
 }
 
 /// Prints how long it takes to build the plan.
-fn time_build(rt: &(impl Print + Clock), alloc: Global) -> io::Result<()> {
+pub fn time_build(rt: &(impl Print + Clock), alloc: Global) -> io::Result<()> {
     let start = Instant::now(rt)?;
     let plan = build_there(alloc)?;
     let micros = start.elapsed(rt)?.as_micros();

@@ -83,7 +83,8 @@ fn nested(alloc: Global) -> Result<String, AllocError> {
     Ok(text)
 }
 
-fn good_scene(alloc: Global, text: &str) -> io::Result<GoodScene> {
+/// The scene that a text says, checked.
+pub fn good_scene(alloc: Global, text: &str) -> io::Result<GoodScene> {
     let Ok(scene) = decode(alloc, text.as_bytes()) else {
         return Err(io::Error::from(io::ErrorKind::InvalidData));
     };

@@ -1,0 +1,84 @@
+#!/bin/sh
+# Times the plan of scenes in which much is shared, of scenes at the limits, and the lines of a demand, and prints a
+# table. The scenes are made in a folder that is removed afterwards. The program is proved and built first if need be.
+#
+#     bench/dry.sh
+set -eu
+top=$(cd "$(dirname "$0")/.." && pwd)
+# In memory where there is such a folder.
+work=$(mktemp -d -p "$(test -d /dev/shm && echo /dev/shm || echo /tmp)")
+trap 'rm -rf "$work"' EXIT
+# Without words the program lists its parts and ends with 2.
+(cd "$top/crates/xs_timing" && rt run >"$work/build" 2>&1) || grep -q '^rt: running' "$work/build" || { cat "$work/build"; exit 1; }
+cd "$work"
+python3 - <<'END'
+import json
+
+CARD, COLUMN = {"op": "card", "rgba": [9, 9, 9, 255]}, {"column": 0}
+
+def save(name, sheets, w=64, h=64, levels=None):
+    colour = [{"kind": "colour", "drawings": ["a.xrl"]}]
+    scene = {"format": 2, "camera": {"w": w, "h": h}, "palettes": [{"styles": [[0, 0, 0, 0], [9, 9, 9, 255]]}],
+             "levels": levels or colour, "sheets": sheets}
+    with open(name + ".json", "w") as file:
+        json.dump(scene, file)
+
+def node(number):
+    return {"node": number} if number >= 0 else COLUMN
+
+def drawing(rows=1):
+    return {"cells": [{"from": 1, "to": rows, "level": 0, "drawing": 0}]}
+
+def shown(sheet, rows=1, peg=None):
+    column = {"cells": [{"from": 1, "to": rows, "sheet": sheet, "start": 1}]}
+    return column if peg is None else dict(column, peg=peg)
+
+# Each of 16 sheets shows the next one in eight columns.
+save("sheets", [{"columns": [shown(n + 1)] * 8} for n in range(15)] + [{"columns": [drawing()]}])
+
+# Each of 256 nodes uses the one before twice.
+pairs = [{"op": "add", "first": node(n - 1), "second": node(n - 1)} for n in range(256)]
+save("nodes", [{"columns": [drawing()], "nodes": pairs, "out": [node(255)]}])
+
+# Each of 128 pairs uses the one before by itself and behind a filter for a style of its own, which no drawing has.
+cm32 = [{"kind": "cm32", "palette": 0, "drawings": ["a.xrl"]}]
+chain = []
+for n in range(128):
+    before = node(len(chain) - 1)
+    chain.append({"op": "delete", "input": before, "styles": [n + 2]})
+    chain.append({"op": "add", "first": before, "second": node(len(chain) - 1)})
+FILTERS = {"columns": [drawing()], "nodes": chain, "out": [node(255)]}
+save("filters", [FILTERS], levels=cm32)
+
+# Three nested sheets of 160 columns: over a card, where each column has a place of its own; and over a drawing, where
+# each column is behind a filter for a style that the drawing does not have.
+def placed(n):
+    pegs = [{"keys": [{"row": 1, "x": 400 * n + k, "y": k}]} for k in range(160)]
+    return {"pegs": pegs, "columns": [shown(n + 1, peg=k) for k in range(160)]}
+
+def filtered(n):
+    filters = [{"op": "delete", "input": {"column": k}, "styles": [160 * n + k + 2]} for k in range(160)]
+    return {"columns": [shown(n + 1)] * 160, "nodes": filters, "out": [node(k) for k in range(160)]}
+
+save("wide-card", [placed(n) for n in range(3)] + [{"columns": [], "nodes": [CARD], "out": [node(0)]}])
+save("wide-filters", [filtered(n) for n in range(3)] + [{"columns": [drawing()]}], levels=cm32)
+
+# Two places of a nested sheet of 82 columns, each of which moves at a speed of its own, before four tiles.
+def moving(speed):
+    return {"keys": [{"row": 1, "x": 0, "y": 0, "line": True}, {"row": 513, "x": 512 * speed, "y": 0}]}
+
+inner = {"pegs": [moving(k + 1) for k in range(82)],
+         "columns": [dict(drawing(512), peg=k) for k in range(82)]}
+outer = {"pegs": [{"keys": [{"row": 1, "x": 0, "y": y}]} for y in (0, 9)],
+         "columns": [shown(1, rows=512, peg=k) for k in range(2)]}
+save("lines", [outer, inner], w=128, h=128)
+END
+program="$top/crates/xs_timing/out/xs_timing"
+for scene in sheets nodes filters wide-card wide-filters; do
+    printf '%-14s' "$scene"
+    "$program" dry "$scene.json" 1 1 | head -n 1
+done
+for time in 1 2 3 4 5; do
+    "$program" dry-lines lines.json 1 512 >lines
+done
+"$program" dry-most
