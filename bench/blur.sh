@@ -4,9 +4,7 @@ set -eu
 top=$(cd "$(dirname "$0")/.." && pwd)
 work=$(mktemp -d)
 trap 'rm -rf "$work"' EXIT
-program=$top/crates/xs_timing/out/xs_timing
-# Without words the program lists its parts and ends with 2.
-(cd "$top/crates/xs_timing" && rt run >"$work/build" 2>&1) || grep -q '^rt: running' "$work/build" || { cat "$work/build"; exit 1; }
+program=$("$top/bench/program.sh")
 cc -O3 -march=x86-64-v2 "$top/bench/blur.c" -o "$work/blur"
 for round in 1 2 3 4 5; do
     "$program" blur | sed 's/^blur/Rattle/' >>"$work/times"

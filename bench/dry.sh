@@ -8,8 +8,7 @@ top=$(cd "$(dirname "$0")/.." && pwd)
 # In memory where there is such a folder.
 work=$(mktemp -d -p "$(test -d /dev/shm && echo /dev/shm || echo /tmp)")
 trap 'rm -rf "$work"' EXIT
-# Without words the program lists its parts and ends with 2.
-(cd "$top/crates/xs_timing" && rt run >"$work/build" 2>&1) || grep -q '^rt: running' "$work/build" || { cat "$work/build"; exit 1; }
+program=$("$top/bench/program.sh")
 cd "$work"
 python3 - <<'END'
 import json
@@ -73,7 +72,6 @@ outer = {"pegs": [{"keys": [{"row": 1, "x": 0, "y": y}]} for y in (0, 9)],
          "columns": [shown(1, rows=512, peg=k) for k in range(2)]}
 save("lines", [outer, inner], w=128, h=128)
 END
-program="$top/crates/xs_timing/out/xs_timing"
 for scene in sheets nodes filters wide-card wide-filters; do
     printf '%-14s' "$scene"
     "$program" dry "$scene.json" 1 1 | head -n 1

@@ -5,9 +5,7 @@ set -eu
 top=$(cd "$(dirname "$0")/.." && pwd)
 work=$(mktemp -d)
 trap 'rm -rf "$work"' EXIT
-program=$top/crates/xs_timing/out/xs_timing
-# Without words the program lists its parts and ends with 2.
-(cd "$top/crates/xs_timing" && rt run >"$work/build" 2>&1) || grep -q '^rt: running' "$work/build" || { cat "$work/build"; exit 1; }
+program=$("$top/bench/program.sh")
 pixman=
 if pkg-config --exists pixman-1 2>/dev/null; then
     cc -O3 -march=x86-64-v2 "$top/bench/kernels.c" -o "$work/kernels" $(pkg-config --cflags --libs pixman-1)

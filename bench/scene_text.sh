@@ -5,11 +5,8 @@
 # The program is proved and built first if need be.
 set -eu
 top=$(cd "$(dirname "$0")/.." && pwd)
-work=$(mktemp -d)
-trap 'rm -rf "$work"' EXIT
-# Without words the program lists its parts and ends with 2.
-(cd "$top/crates/xs_timing" && rt run >"$work/build" 2>&1) || grep -q '^rt: running' "$work/build" || { cat "$work/build"; exit 1; }
-python3 - "$top/crates/xs_timing/out/xs_timing" <<'END'
+program=$("$top/bench/program.sh")
+python3 - "$program" <<'END'
 import subprocess, sys
 
 PROGRAM = sys.argv[1]

@@ -1,4 +1,4 @@
-ghost use Rattle.std.specs.Prelude.{◌≡◌, ◌<◌, ◌+◌, [], ◌∷◌, ◌++◌, length, option_map, IfOk, OnOk, OnErr, IsErr};
+ghost use Rattle.std.specs.Prelude.{◌≡◌, ◌<◌, ◌+◌, ◌-◌, ◌^◌, min, [], ◌∷◌, ◌++◌, length, option_map, IfOk, OnOk, OnErr, IsErr};
 ghost use Rattle.xs_raster.specs.Bitmap.{pixel_of};
 ghost use Rattle.xs_plan.specs.Record.{entry_at};
 ghost use Rattle.xs_plan.specs.Values.{HoldsValue};
@@ -60,7 +60,10 @@ impl<B: Bench> Bench for ShortBench<B> {
             (λ q. pixel_of t.raster q.x q.y)) }
         ensures gained { OnOk result (B.made self.new.inner ≡ B.made self.old.inner ++ k ∷ []) }
         ensures left { OnErr result (B.made self.new.inner ≡ B.made self.old.inner) }
+        ensures at { self.new.at ≡ self.old.at }
+        ensures calls { self.new.calls ≡ min (self.old.calls + 1) (2 ^ 64 - 1) }
         ensures short { self.old.calls + 1 ≡ self.old.at → IsErr result }
+        ensures uncalled { self.old.calls + 1 ≡ self.old.at → self.new.inner ≡ self.old.inner }
     {
         self.calls = self.calls.saturating_add(1);
         if self.calls == self.at {

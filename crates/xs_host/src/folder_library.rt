@@ -7,6 +7,7 @@ ghost use Rattle.xs_host.specs.Opening.{opening_answer, reading_answer, IsReadin
 
 use crate::counted::{Counted, CountsFaults};
 use std::alloc::Global;
+use std::fs::OpenFile;
 use std::io::{ErrorKind, Read};
 use std::marker::Model;
 use std::rt::Files;
@@ -63,16 +64,34 @@ fn reading_fault(error: &io::Error) -> Fetched
     }
 }
 
+/// For how many bytes room is made before a file is read: its length and one byte more, at which its
+/// end is seen, but none where its length can't be had. A hint, since a file may grow or shrink.
+fn room_for<F: OpenFile>(file: &F, limit: u64) -> usize
+    ensures { result ≤ limit + 1 }
+{
+    match file.metadata() {
+        Ok(metadata) => metadata.len().min(limit).saturating_add(1) as usize,
+        Err(_) => 0,
+    }
+}
+
 /// The bytes that a reader gives to its end, if there are at most `limit`. It gives no more than one
-/// byte past the limit.
-fn read_front<F: Read + CountsFaults>(front: &mut F, alloc: Global, limit: u64) -> Fetched
+/// byte past the limit. There is room for so many bytes from the start.
+fn read_front<F: Read + CountsFaults>(
+    front: &mut F,
+    alloc: Global,
+    room: usize,
+    limit: u64,
+) -> Fetched
     requires { IfSome (F.remaining front.old) (λ bytes. length bytes ≤ limit + 1) }
     ensures answer { IsReading limit (Rose (F.faults front.old) (F.faults front.new)) result }
     ensures whole { IfSome (F.remaining front.old) (λ bytes.
         IsFetched (Some (λ _. Some bytes)) [] limit (Rose (F.faults front.old) (F.faults front.new)) result) }
 {
     let before = front.faults_so_far();
-    let mut bytes = Vec::new(alloc);
+    let Ok(mut bytes) = Vec::with_capacity(alloc, room) else {
+        return Fetched::Memory;
+    };
     match front.read_to_end(&mut bytes) {
         Ok(_) if bytes.len() as u64 <= limit => Fetched::Bytes(bytes),
         Ok(_) => Fetched::TooLong,
@@ -83,13 +102,18 @@ fn read_front<F: Read + CountsFaults>(front: &mut F, alloc: Global, limit: u64) 
 
 /// The bytes of an open file, if there are at most `limit`, and the file. At most `limit + 1` of them
 /// are read, so that a file without end is too long.
-fn read_open<F: Read + CountsFaults + Drop>(file: F, alloc: Global, limit: u64) -> (Fetched, F)
+fn read_open<F: Read + CountsFaults + Drop>(
+    file: F,
+    alloc: Global,
+    room: usize,
+    limit: u64,
+) -> (Fetched, F)
     ensures answer { IsReading limit (Rose (F.faults file) (F.faults result.1)) result.0 }
     ensures whole { IfSome (F.remaining file) (λ bytes.
         IsFetched (Some (λ _. Some bytes)) [] limit (Rose (F.faults file) (F.faults result.1)) result.0) }
 {
     let mut front = file.take(limit.saturating_add(1));
-    let answer = read_front(&mut front, alloc, limit);
+    let answer = read_front(&mut front, alloc, room, limit);
     (answer, front.into_inner())
 }
 
@@ -98,7 +122,10 @@ fn read_file<R: Files>(rt: &R, alloc: Global, name: &str, limit: u64) -> Fetched
     ensures { IsFetched None name.now limit ⊤ result }
 {
     match fs::open(rt, name) {
-        Ok(file) => read_open(Counted::new(file), alloc, limit).0,
+        Ok(file) => {
+            let room = room_for(&file, limit);
+            read_open(Counted::new(file), alloc, room, limit).0
+        }
         Err(error) => opening_fault(&error),
     }
 }

@@ -1,4 +1,4 @@
-ghost use Rattle.std.specs.Prelude.{◌≡◌, ℕ, ◌+◌, ◌*◌, ◌<◌, ◌≤◌, ◌^◌, List, length, drop, IfOk, IfErr, OnOk, None, false};
+ghost use Rattle.std.specs.Prelude.{◌≡◌, ℕ, ◌+◌, ◌*◌, ◌<◌, ◌≤◌, ◌^◌, List, length, drop, IfOk, IfErr, OnOk, None, Some, false};
 ghost use Rattle.std.specs.Simd.Lanes.{Each1};
 ghost use Rattle.xs_rawfile.specs.declared.drawing.RawKind.{RawKind as Kind};
 ghost use Rattle.xs_rawfile.specs.Raw.{Raw, IsRaw};
@@ -8,13 +8,14 @@ ghost use Rattle.xs_rawfile.specs.Pixels.{unmultiplied_fault};
 use crate::drawing::{Drawing, RawKind, is_place, is_side};
 use crate::fault::{LevelCode, LevelFault};
 use crate::premultiplied::first_unmultiplied;
-use std::alloc::{AllocError, Global};
+use std::alloc::Global;
 use xs_base::{List, Memory};
 
 /// How many bytes of a file come before its pixels.
 const HEADER: usize = 21;
 
-/// The drawing that the bytes of a file hold, for a level of this kind, or their first fault.
+/// The drawing that the bytes of a file hold, for a level of this kind, or their first fault. The
+/// bytes are copied.
 pub fn read_level(alloc: Global, bytes: &[u8], kind: RawKind) -> Result<Drawing, LevelFault>
     ensures accepted { OnOk result (first_fault kind bytes.now ≡ None) }
     ensures value { IfOk result (λ d. d ≡ raw_of kind bytes.now) }
@@ -23,26 +24,60 @@ pub fn read_level(alloc: Global, bytes: &[u8], kind: RawKind) -> Result<Drawing,
     match fault_of(bytes, kind) {
         Some(code) => Err(LevelFault::Code(code)),
         None => {
-            let drawing = read_fields(alloc, bytes, kind)?;
-            Ok(drawing)
+            let copy = Vec::from_slice(alloc, bytes)?;
+            Ok(fields_of(copy, kind))
         }
     }
 }
 
-/// The drawing that the bytes of a file without a fault hold.
-fn read_fields(alloc: Global, bytes: &[u8], kind: RawKind) -> Result<Drawing, AllocError>
-    requires { first_fault kind bytes.now ≡ None }
-    ensures { IfOk result (λ d. d ≡ raw_of kind bytes.now) }
+/// The drawing that the bytes of a file hold, for a level of this kind, or their first fault. The
+/// drawing keeps the bytes themselves, and no memory is asked for.
+pub fn read_level_owned(bytes: Vec<u8>, kind: RawKind) -> Result<Drawing, LevelCode>
+    ensures accepted { OnOk result (first_fault kind bytes.items ≡ None) }
+    ensures value { IfOk result (λ d. d ≡ raw_of kind bytes.items) }
+    ensures fault { IfErr result (λ code. first_fault kind bytes.items ≡ Some code) }
 {
-    let pixels = Vec::from_slice(alloc, pixel_bytes(bytes))?;
-    Ok(Drawing {
-        x0: number_at(bytes, 5).cast_signed(),
-        y0: number_at(bytes, 9).cast_signed(),
-        w: number_at(bytes, 13),
-        h: number_at(bytes, 17),
+    match fault_of(bytes.as_slice(), kind) {
+        Some(code) => Err(code),
+        None => Ok(fields_of(bytes, kind)),
+    }
+}
+
+/// The drawing that the bytes of a file without a fault hold.
+fn fields_of(bytes: Vec<u8>, kind: RawKind) -> Drawing
+    requires { first_fault kind bytes.items ≡ None }
+    ensures { result ≡ raw_of kind bytes.items }
+{
+    let file = bytes.as_slice();
+    holds_a_drawing(file, kind);
+    let x0 = number_at(file, 5).cast_signed();
+    let y0 = number_at(file, 9).cast_signed();
+    let w = number_at(file, 13);
+    let h = number_at(file, 17);
+    let pixels = without_header(bytes);
+    Drawing {
+        x0,
+        y0,
+        w,
+        h,
         kind,
         bytes: List::of(pixels),
-    })
+    }
+}
+
+/// A file without a fault holds a drawing as a file may hold it. Nothing is done but to tell this to contracts.
+fn holds_a_drawing(file: &[u8], kind: RawKind)
+    requires { first_fault kind file.now ≡ None }
+    ensures { IsRaw (raw_of kind file.now) }
+{}
+
+/// The bytes after the header, moved to the front of the memory that held the file.
+fn without_header(mut bytes: Vec<u8>) -> Vec<u8>
+    requires { HEADER ≤ length bytes.items }
+    ensures { result.items ≡ drop HEADER bytes.items }
+{
+    drop(bytes.drain(..HEADER));
+    bytes
 }
 
 /// The bytes of a drawing's file.

@@ -14,4 +14,4 @@ pub use drawing::{Drawing, RawKind};
 pub use drawings::{Drawings, drawings_cross_threads};
 pub use fault::{LevelCode, LevelFault};
 pub use frame::{FRAME_HEADER, frame_bytes, push_frame_header};
-pub use level::{level_format, read_level, write_level};
+pub use level::{level_format, read_level, read_level_owned, write_level};

@@ -137,7 +137,7 @@ module _ (told : Option Pictures) (p : PlanRecord) where
       → Holds told p (stepped s k (get_or s.words k 0) id c (with_met v k met) keeps)
   meets s id k c v met holds me there =
       unmoved s id k c v (with_met v k met) holds me there (ok_met p v k met (holds.views id v me))
-      (record { live = refl; number = refl; next = refl; apart = refl })
+      (record { live = refl; number = refl; next = refl; apart = refl; joined = refl })
       (λ j. record {
         won = refl;
         made = refl;
@@ -170,7 +170,7 @@ module _ (told : Option Pictures) (p : PlanRecord) where
         served = λ e is. refl;
       })
       (ok_known p v k live there (holds.views id v me))
-      (record { live = refl; number = refl; next = refl; apart = refl })
+      (record { live = refl; number = refl; next = refl; apart = refl; joined = refl })
       (part_moves told p s.views id v w k (get_or s.words k 0) (get_or s.words k 0) (get_elem? s.homes k) (get_elem? s.homes k) shape shape
       me was was.says (record { won = refl; made = refl; lost = refl; turn = refl; leaving = refl })
       (open_reads-stay p s.views id v w k me (λ e is. refl) ∙ was.counted) (λ there_is. refl)
@@ -196,7 +196,7 @@ module _ (told : Option Pictures) (p : PlanRecord) where
         served = λ e is. refl;
       })
       (ok_won p v k live there (holds.views id v me))
-      (record { live = refl; number = refl; next = refl; apart = refl })
+      (record { live = refl; number = refl; next = refl; apart = refl; joined = refl })
       (part_moves told p s.views id v w k (get_or s.words k 0) 1 (get_elem? s.homes k) (get_elem? s.homes k) Unclaimed Taken
       me was refl
       (record {
@@ -416,7 +416,7 @@ module _ (told : Option Pictures) (p : PlanRecord) where
               served = λ e is. refl;
             })
             (ok_filling p m.0 k live rests claimed_it (holds.views id m.0 me))
-            (record { live = refl; number = refl; next = refl; apart = refl })
+            (record { live = refl; number = refl; next = refl; apart = refl; joined = refl })
             (part_moves told p s.views id m.0 w k (get_or s.words k 0) (get_or s.words k 0) (get_elem? s.homes k) (get_elem? homes k)
             Taken Taken me was was.says
             (record { won = refl; made = refl; lost = refl; turn = refl; leaving = refl })
@@ -478,7 +478,7 @@ module _ (told : Option Pictures) (p : PlanRecord) where
         served = λ e is. refl;
       })
       (ok_made p v k live fills_k (holds.views id v me))
-      (record { live = refl; number = refl; next = refl; apart = refl })
+      (record { live = refl; number = refl; next = refl; apart = refl; joined = refl })
       (part_moves told p s.views id v w k (get_or s.words k 0) word (get_elem? s.homes k) (get_elem? homes k) Taken now me was word_is
       (record {
         won = refl;
@@ -528,7 +528,7 @@ module _ (told : Option Pictures) (p : PlanRecord) where
         served = λ e is. refl;
       })
       (ok_lost p v k live rests claimed_it (holds.views id v me))
-      (record { live = refl; number = refl; next = refl; apart = refl })
+      (record { live = refl; number = refl; next = refl; apart = refl; joined = refl })
       (part_moves told p s.views id v w k (get_or s.words k 0) 2 (get_elem? s.homes k) (get_elem? s.homes k) Taken GivenUp me was refl
       (record {
         won = refl;

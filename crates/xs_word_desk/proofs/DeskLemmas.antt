@@ -32,6 +32,7 @@ use Rattle.xs_word_desk.proofs.OwnLemmas.{under_le, own_met, own_known, own_won,
 module _ (p : PlanRecord) where
   pub keeps_met : (v : View) (k : ℕ) (met : Met) → Keeps p v → Keeps p (with_met v k met)
   keeps_met v k met keeps = record {
+    plan = keeps.plan;
     rests = record { live = keeps.rests.live; filling = keeps.rests.filling; turn = keeps.rests.turn; leaving = keeps.rests.leaving };
     ok = ok_met p v k met keeps.ok;
     own = own_met p v k met keeps.own;
@@ -39,10 +40,12 @@ module _ (p : PlanRecord) where
     alone_made = keeps.alone_made;
     next = keeps.next;
     fresh = keeps.fresh;
+    counted = keeps.counted;
   }
 
   keeps_won : (v : View) (k : ℕ) → k < length p.entries → wins k v ≡ 0 → Keeps p v → Keeps p (with_won v k)
   keeps_won v k there unwon keeps = record {
+    plan = keeps.plan;
     rests = record { live = keeps.rests.live; filling = keeps.rests.filling; turn = keeps.rests.turn; leaving = keeps.rests.leaving };
     ok = ok_won p v k keeps.rests.live there keeps.ok;
     own = own_won p v k keeps.own;
@@ -55,12 +58,14 @@ module _ (p : PlanRecord) where
     alone_made = keeps.alone_made;
     next = keeps.next;
     fresh = keeps.fresh;
+    counted = keeps.counted;
   }
 
   -- one that it finds ready, which it made if it is alone
   keeps_known :
       (v : View) (k : ℕ) → k < length p.entries → (IsSolo v → 0 < makes k v) → Keeps p v → Keeps p (with_known v k)
   keeps_known v k there made keeps = record {
+    plan = keeps.plan;
     rests = record { live = keeps.rests.live; filling = keeps.rests.filling; turn = keeps.rests.turn; leaving = keeps.rests.leaving };
     ok = ok_known p v k keeps.rests.live there keeps.ok;
     own = own_known p v k keeps.own;
@@ -71,10 +76,12 @@ module _ (p : PlanRecord) where
     ];
     next = keeps.next;
     fresh = keeps.fresh;
+    counted = keeps.counted;
   }
 
   pub keeps_made : (v : View) (k : ℕ) → makes k v + loses k v < wins k v → Keeps p v → Keeps p (with_made v k)
   keeps_made v k claimed keeps = record {
+    plan = keeps.plan;
     rests = record { live = keeps.rests.live; filling = refl; turn = keeps.rests.turn; leaving = keeps.rests.leaving };
     ok = ok_made p (with_filling v k) k keeps.rests.live refl (ok_filling p v k keeps.rests.live keeps.rests.filling claimed keeps.ok);
     own = own_made p v k claimed (keeps.once k) keeps.own;
@@ -87,10 +94,12 @@ module _ (p : PlanRecord) where
     ];
     next = keeps.next;
     fresh = keeps.fresh;
+    counted = keeps.counted;
   }
 
   pub keeps_lost : (v : View) (k : ℕ) → makes k v + loses k v < wins k v → Keeps p v → Keeps p (with_lost v k)
   keeps_lost v k claimed keeps = record {
+    plan = keeps.plan;
     rests = record { live = keeps.rests.live; filling = keeps.rests.filling; turn = keeps.rests.turn; leaving = keeps.rests.leaving };
     ok = ok_lost p v k keeps.rests.live (ap (is_this k) keeps.rests.filling) claimed keeps.ok;
     own = own_lost p v k claimed (keeps.once k) keeps.own;
@@ -98,6 +107,7 @@ module _ (p : PlanRecord) where
     alone_made = keeps.alone_made;
     next = keeps.next;
     fresh = keeps.fresh;
+    counted = keeps.counted;
   }
 
   -- giving a turn back leaves a seat at rest as it is
@@ -139,6 +149,7 @@ module _ (p : PlanRecord) where
   keeps_served id v e k n keeps source may =
       let serve = may_serve id v e k keeps source may in
       keeps_met (with_served v e None) k (LeftOpen n) (record {
+        plan = keeps.plan;
         rests = record { live = keeps.rests.live; filling = keeps.rests.filling; turn = keeps.rests.turn; leaving = refl };
         ok = ok_served p v e None keeps.rests.live serve.within serve.mine keeps.rests.turn may.known keeps.ok;
         own = own_served p v e None (owns_it id v (reader_at p e) keeps.rests.live may.mine) may.unserved keeps.own;
@@ -146,6 +157,7 @@ module _ (p : PlanRecord) where
         alone_made = keeps.alone_made;
         next = keeps.next;
         fresh = keeps.fresh;
+        counted = keeps.counted;
       })
 
 -- ---- what a word tells

@@ -38,6 +38,7 @@ pub record SameSeat (v w : View) : Type 0 where
   pub number : w.number ≡ v.number
   pub next : w.next ≡ v.next
   pub apart : w.apart ≡ v.apart
+  pub joined : w.joined ≡ v.joined
 
 -- a sum stays where its summand does
 pub total-stays :
@@ -132,6 +133,7 @@ module _ (told : Option Pictures) (p : PlanRecord) where
     fresh = λ n. subst₂ (λ (l : List ℕ) (m : ℕ). 0 < times n l → n < m) (sym chief_now.5) (sym chief_now.4) (seats.fresh n);
     once = λ n. subst (λ (l : List ℕ). times n l ≤ 1) (sym chief_now.5) (seats.once n);
     positive = subst₂ (λ (l : List ℕ) (m : ℕ). (times 0 l ≡ 0) × (0 < m)) (sym chief_now.5) (sym chief_now.4) seats.positive;
+    counted = omega (arith, seats.counted, ap (λ (l : List ℕ). length l) chief_now.5, chief_now.6, chief_now.4);
     others = λ j u at differ. elim (at_set views id j w u at) [
       | inl here ↦
           let before = seats.others id v me (λ zero. differ (here.0 ∙ zero)) in
@@ -147,7 +149,7 @@ module _ (told : Option Pictures) (p : PlanRecord) where
     where
       chief_now :
           (c : View) × (get_elem? (set views id w) 0 ≡ some c) × (c.live ≡ seats.chief.live) × (c.number ≡ seats.chief.number)
-          × (c.next ≡ seats.chief.next) × (c.apart ≡ seats.chief.apart)
+          × (c.next ≡ seats.chief.next) × (c.apart ≡ seats.chief.apart) × (c.joined ≡ seats.chief.joined)
       chief_now = elim (cases_eq 0 id) [
         | inl is ↦
             let it : v ≡ seats.chief = some-injective v seats.chief (sym me ∙ ap (get_elem? views) (sym is) ∙ seats.first) in (
@@ -157,8 +159,9 @@ module _ (told : Option Pictures) (p : PlanRecord) where
               same.number ∙ ap (λ (x : View). x.number) it,
               same.next ∙ ap (λ (x : View). x.next) it,
               same.apart ∙ ap (λ (x : View). x.apart) it,
+              same.joined ∙ ap (λ (x : View). x.joined) it,
             )
-        | inr differ ↦ (seats.chief, set_else views id 0 w differ ∙ seats.first, refl, refl, refl, refl)
+        | inr differ ↦ (seats.chief, set_else views id 0 w differ ∙ seats.first, refl, refl, refl, refl, refl)
       ]
 
   -- the state after a step on word k by the seat id

@@ -33,14 +33,14 @@ both_true true = refl
 both_true false = refl
 
 -- every read is open
-all_open : (p : PlanRecord) (k : ℕ) → open_reads p (first_view ∷ []) k ≡ readers_of p k
+all_open : (p : PlanRecord) (k : ℕ) → open_reads p (first_view p ∷ []) k ≡ readers_of p k
 all_open p k =
-    how_many-alike (reads_in p) (λ e. (source_at p e == k) && (total (serves e) (first_view ∷ []) == 0)) (λ e. source_at p e == k)
+    how_many-alike (reads_in p) (λ e. (source_at p e == k) && (total (serves e) (first_view p ∷ []) == 0)) (λ e. source_at p e == k)
     (λ e less. both_true (source_at p e == k))
     ∙ how_many-places (sources p) (λ s. s == k) (reads_in p) (omega arith)
     ∙ ap (count_by (λ s. s == k)) (take_all (reads_in p) (sources p) (omega arith))
 
-pub first_ok : (p : PlanRecord) → ViewOk p first_view
+pub first_ok : (p : PlanRecord) → ViewOk p (first_view p)
 first_ok p = record {
   backed = λ k. omega arith;
   owned = λ e. omega arith;
@@ -55,13 +55,13 @@ first_ok p = record {
   gone = λ dead. absurd (true≢false dead);
 }
 
-pub only_first : (id : ℕ) (v : View) → get_elem? (first_view ∷ []) id ≡ some v → (id ≡ 0) × (first_view ≡ v)
-only_first zero v at = (refl, some-injective first_view v at)
-only_first (suc id) v at = absurd (some-ne-none v (sym at))
+pub only_first : (p : PlanRecord) (id : ℕ) (v : View) → get_elem? (first_view p ∷ []) id ≡ some v → (id ≡ 0) × (first_view p ≡ v)
+only_first p zero v at = (refl, some-injective (first_view p) v at)
+only_first p (suc id) v at = absurd (some-ne-none v (sym at))
 
-first_seats : SeatsOk (first_view ∷ [])
-first_seats = record {
-  chief = first_view;
+first_seats : (p : PlanRecord) → SeatsOk (first_view p ∷ [])
+first_seats p = record {
+  chief = first_view p;
   first = refl;
   chief_live = refl;
   chief_number = refl;
@@ -73,12 +73,13 @@ first_seats = record {
   fresh = λ n there_is. absurd (omega arith);
   once = λ n. omega arith;
   positive = (refl, omega arith);
-  others = λ id v at differ. absurd (differ (only_first id v at).0);
+  counted = refl;
+  others = λ id v at differ. absurd (differ (only_first p id v at).0);
 }
 
 pub opens :
     (told : Option Pictures) (p : PlanRecord) → IsPlan p
-    → Holds told p (opening (replicate (length p.entries) 0) (no_tiles (length p.entries)) first_view)
+    → Holds told p (opening (replicate (length p.entries) 0) (no_tiles (length p.entries)) (first_view p))
 opens told p plan = record {
   plan = plan;
   wide = length-replicate (length p.entries) 0;
@@ -97,6 +98,6 @@ opens told p plan = record {
       lies = (refl, empty_slots (length p.entries) k there);
     };
   };
-  views = λ id v at. subst (ViewOk p) (only_first id v at).1 (first_ok p);
-  seats = first_seats;
+  views = λ id v at. subst (ViewOk p) (only_first p id v at).1 (first_ok p);
+  seats = first_seats p;
 }

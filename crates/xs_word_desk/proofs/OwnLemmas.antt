@@ -208,7 +208,7 @@ own_split_off p v = record {
   claims_own = λ k claimed. absurd (omega arith);
 }
 
-pub own_first : (p : PlanRecord) → Own p first_view
+pub own_first : (p : PlanRecord) → Own p (first_view p)
 own_first p = record {
   backed_under = λ n k. omega arith;
   served_under = λ n e. omega arith;

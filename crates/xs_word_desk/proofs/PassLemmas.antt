@@ -1,5 +1,5 @@
 -- The chief before any step, and seats that are split off and joined, keep what every desk keeps
-use Rattle.std.proofs.Common.{◌≡◌, ◌≢◌, ◌≤◌, ◌+◌, ◌*◌, ◌^◌, ℕ, zero, suc, false, None, length-append, ◌&&◌, ◌==◌, List, [], ◌∷◌, ◌++◌, length, refl, sym, ap, ap₂, ◌∙◌, inl, inr, arith, eq-zero-or-pos, ne_of_gt}
+use Rattle.std.proofs.Common.{◌≡◌, ◌≢◌, ◌≤◌, ◌+◌, ◌*◌, ◌^◌, ℕ, zero, suc, true, false, None, length-append, ◌&&◌, ◌==◌, List, [], ◌∷◌, ◌++◌, length, refl, sym, ap, ap₂, ◌∙◌, inl, inr, arith, eq-zero-or-pos, ne_of_gt}
 use Rattle.std.proofs.Math.Nat.{pow-suc, mul_assoc, mul_comm}
 use Rattle.std.proofs.lemmas.Bool.{cases_eq, eq-eqb, ne_eqb, and_left, and_right, cond-true, cond-false}
 use Rattle.atomic_table.specs.Seated.{TableId}
@@ -17,8 +17,9 @@ use Rattle.xs_word_desk.proofs.OwnLemmas.{own_first, own_split, own_split_off, o
 use Rattle.xs_word_desk.proofs.OpeningLemmas.{first_ok}
 use Rattle.xs_word_desk.proofs.SeatSteps.{ok_split, ok_split_off, ok_joined, times_cons}
 
-pub keeps_first : (p : PlanRecord) → Keeps p first_view
+pub keeps_first : (p : PlanRecord) → Keeps p (first_view p)
 keeps_first p = record {
+  plan = refl;
   rests = record { live = refl; filling = refl; turn = refl; leaving = refl };
   ok = first_ok p;
   own = own_first p;
@@ -26,6 +27,7 @@ keeps_first p = record {
   alone_made = λ solo k some. absurd (omega (arith, some));
   next = λ chief. omega arith;
   fresh = λ n some. absurd (omega (arith, some));
+  counted = λ chief. refl;
 }
 
 -- ---- the number of a cache
@@ -86,6 +88,7 @@ one_home a b same = of_numbers a b (same_numbers (numbers_of a) (numbers_of b) s
 
 pub keeps_split : (p : PlanRecord) (v : View) → Keeps p v → Keeps p (with_split v)
 keeps_split p v keeps = record {
+  plan = keeps.plan;
   rests = record { live = keeps.rests.live; filling = keeps.rests.filling; turn = keeps.rests.turn; leaving = keeps.rests.leaving };
   ok = ok_split None p v keeps.ok;
   own = own_split p v keeps.own;
@@ -97,6 +100,7 @@ keeps_split p v keeps = record {
     | inr differ ↦
         let less = keeps.fresh n (omega (arith, some, times_push n v.next v.apart, none_at v.next n differ)) in omega (arith, less)
   ];
+  counted = λ chief. omega (arith, keeps.counted chief, length-append v.apart (v.next ∷ []));
 }
   where
     not_empty : (l : List ℕ) (n : ℕ) → l ++ n ∷ [] ≡ [] → ⊥
@@ -105,6 +109,7 @@ keeps_split p v keeps = record {
 
 pub keeps_split_off : (p : PlanRecord) (v : View) → v.number ≡ 0 → Keeps p v → Keeps p (split_off v)
 keeps_split_off p v chief keeps = record {
+  plan = keeps.plan;
   rests = record { live = refl; filling = refl; turn = refl; leaving = refl };
   ok = ok_split_off None p v keeps.ok;
   own = own_split_off p v;
@@ -112,6 +117,7 @@ keeps_split_off p v chief keeps = record {
   alone_made = λ solo k some. absurd (omega (arith, solo.1, keeps.next chief));
   next = λ number. absurd (omega (arith, number, keeps.next chief));
   fresh = λ n some. absurd (omega (arith, some));
+  counted = λ number. absurd (omega (arith, number, keeps.next chief));
 }
 
 -- the chief is not alone then, nor is the other
@@ -146,6 +152,7 @@ more_apart p v keeps = record {
     | inr some ↦ let less = keeps.fresh v.next some in absurd (omega (arith, less))
   ];
   apart = refl;
+  more = length-append v.apart (v.next ∷ []);
 }
 
 -- ---- join
@@ -160,8 +167,32 @@ without_last n (x ∷ l) lacks =
           ∙ ap (λ (m : List ℕ). x ∷ m) (without_last n l (omega (arith, lacks, times_cons n x l)))
     ]
 
-pub less_apart : (was : List ℕ) (number : ℕ) → LessApart was (without number was) number
-less_apart was number others lacks is = ap (without number) is ∙ without_last number others lacks
+-- a list without a number that it lacks
+without_lacked : (n : ℕ) (l : List ℕ) → times n l ≡ 0 → without n l ≡ l
+without_lacked n [] lacks = refl
+without_lacked n (x ∷ l) lacks =
+    elim (cases_eq x n) [
+      | inl same ↦ absurd (omega (arith, lacks, times_cons n x l, one_at x n same))
+      | inr differ ↦
+          cond-false (x == n) l (x ∷ without n l) (ne_eqb x n differ)
+          ∙ ap (λ (m : List ℕ). x ∷ m) (without_lacked n l (omega (arith, lacks, times_cons n x l)))
+    ]
+
+-- the chief counts the seats that it joins, so the one that it joined was apart
+pub less_apart :
+    (p : PlanRecord) (v w : View) → v.number ≡ 0 → Keeps p v → Recalls (with_joined v w)
+    → LessApart v.apart (without w.number v.apart) w.number
+less_apart p v w chief keeps recalls =
+    let fewer : length (without w.number v.apart) + 1 ≡ length v.apart =
+    omega (arith, keeps.counted chief, recalls.counted keeps.rests.live chief) in record {
+      apart = elim (eq-zero-or-pos (times w.number v.apart)) [
+        | inl lacks ↦ absurd (omega (arith, fewer, ap (λ (l : List ℕ). length l) (without_lacked w.number v.apart lacks)))
+        | inr some ↦ some
+      ];
+      rest = refl;
+      fewer = fewer;
+      last = λ others lacks is. ap (without w.number) is ∙ without_last w.number others lacks;
+    }
 
 without_less : (n m : ℕ) (l : List ℕ) → times n (without m l) ≤ times n l
 without_less n m [] = omega arith
@@ -180,6 +211,7 @@ pub keeps_joined :
     → Recalls (with_joined v w) → Keeps p (with_joined v w)
 keeps_joined p v w chief other settled keeps its recalls =
     let not_chief : has_number 0 w ≡ 0 = ap (λ b. one_if (b && (w.number == 0))) its.rests.live ∙ none_at w.number 0 other in record {
+      plan = keeps.plan;
       rests = record { live = keeps.rests.live; filling = keeps.rests.filling; turn = keeps.rests.turn; leaving = keeps.rests.leaving };
       ok = ok_joined None p v w keeps.rests.live chief not_chief keeps.ok its.ok;
       own = own_joined p v w not_chief its.ok settled keeps.own its.own;
@@ -187,6 +219,7 @@ keeps_joined p v w chief other settled keeps its recalls =
       alone_made = recalls.alone_made;
       next = keeps.next;
       fresh = λ n some. keeps.fresh n (omega (arith, some, without_less n w.number v.apart));
+      counted = recalls.counted keeps.rests.live;
     }
 
 pub join_tells : (id : TableId) (v w : View) → JoinTells (desk_view id v) (desk_view id w) (desk_view id (with_joined v w))
@@ -200,3 +233,10 @@ join_tells id v w = record {
   known = refl;
   met = refl;
 }
+
+-- the chief is alone where no seat is apart
+pub solo_where_none_apart : (v : View) → v.live ≡ true → v.number ≡ 0 → length v.apart ≡ 0 → is_solo v ≡ true
+solo_where_none_apart v live chief none_apart =
+    ap (λ b. b && (v.number == 0) && (length v.apart == 0)) live
+    ∙ ap (λ b. true && b && (length v.apart == 0)) (eq-eqb v.number 0 chief)
+    ∙ ap (λ b. true && true && b) (eq-eqb (length v.apart) 0 none_apart)

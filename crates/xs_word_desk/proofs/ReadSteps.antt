@@ -179,7 +179,7 @@ module _ (told : Option Pictures) (p : PlanRecord) where
               served = λ i is. refl;
             })
             (ok_turn p v e live may.within may.mine rests (holds.views id v me))
-            (record { live = refl; number = refl; next = refl; apart = refl })
+            (record { live = refl; number = refl; next = refl; apart = refl; joined = refl })
             (part_moves told p s.views id v w k word (bit_or word 4) (get_elem? s.homes k) (get_elem? homes k)
             (Finished false false (suc reads)) (Finished true false (suc reads)) me was
             (ap (λ x. bit_or x 4) was.says ∙ turn_set false false (suc reads))
@@ -272,7 +272,7 @@ module _ (told : Option Pictures) (p : PlanRecord) where
         served = λ i is. refl;
       })
       (ok_given p v (holds.views id v me))
-      (record { live = refl; number = refl; next = refl; apart = refl })
+      (record { live = refl; number = refl; next = refl; apart = refl; joined = refl })
       (part_moves told p s.views id v w k word (bit_and word all_but_turn) (get_elem? s.homes k) (get_elem? homes k)
       (Finished true false (suc reads)) (Finished false false (suc reads)) me was
       (ap (λ x. bit_and x all_but_turn) was.says
@@ -352,7 +352,7 @@ module _ (told : Option Pictures) (p : PlanRecord) where
         served = λ i is. refl;
       })
       (ok_cleared p v (holds.views id v me))
-      (record { live = refl; number = refl; next = refl; apart = refl })
+      (record { live = refl; number = refl; next = refl; apart = refl; joined = refl })
       (part_moves told p s.views id v w k word (bit_or word 8) (get_elem? s.homes k) (get_elem? homes k)
       (Finished false false zero) (Finished false true zero) me was
       (ap (λ x. bit_or x 8) was.says ∙ cleared_set false false zero)
@@ -490,7 +490,7 @@ module _ (told : Option Pictures) (p : PlanRecord) where
       (ok_met p (with_served v e None) k (LeftOpen (word / 16 - 1))
       (ok_served p v e None live may.within may.mine rests
       (subst (λ (j : ℕ). 0 < knows j v) (sym may.source) may.known) (holds.views id v me)))
-      (record { live = refl; number = refl; next = refl; apart = refl })
+      (record { live = refl; number = refl; next = refl; apart = refl; joined = refl })
       (part_moves told p s.views id v w k word next (get_elem? s.homes k) (get_elem? s.homes k)
       (Finished turn cleared (suc (suc reads))) (Finished turn cleared (suc reads)) me was
       (ap (λ x. (x + (2 ^ 64 - 16)) % 2 ^ 64) was.says
@@ -546,7 +546,7 @@ module _ (told : Option Pictures) (p : PlanRecord) where
       (ok_met p (with_served v e (Some k)) k (LeftOpen (word / 16 - 1))
       (ok_served p v e (Some k) live may.within may.mine rests
       (subst (λ (j : ℕ). 0 < knows j v) (sym may.source) may.known) (holds.views id v me)))
-      (record { live = refl; number = refl; next = refl; apart = refl })
+      (record { live = refl; number = refl; next = refl; apart = refl; joined = refl })
       (part_moves told p s.views id v w k word next (get_elem? s.homes k) (get_elem? homes k)
       (Finished false false 1) (Finished false false 0) me was
       (ap (λ x. (x + (2 ^ 64 - 16)) % 2 ^ 64) was.says

@@ -1,7 +1,7 @@
 -- A look that only recalls what the words and the slots tell of any seat
-use Rattle.std.proofs.Common.{◌≡◌, ◌<◌, ℕ, Option, None, length, get_or, refl, sym, ap, subst, inl, inr, arith, eq-zero-or-pos}
+use Rattle.std.proofs.Common.{◌≡◌, ◌<◌, ◌+◌, ℕ, Option, None, length, get_or, refl, sym, ap, subst, ◌∙◌, inl, inr, arith, eq-zero-or-pos}
 use Rattle.std.proofs.lemmas.Bool.{cases_lt}
-use mathlib.Core.Option.{some, none}
+use mathlib.Core.Option.{some, none, some-injective}
 use lib.ListN.{get_elem?}
 use Rattle.atomic_table.specs.Table.{State, step, keeps, Allows}
 use Rattle.xs_pixel.specs.Picture.{Pictures}
@@ -14,6 +14,7 @@ use Rattle.xs_word_desk.specs.Own.{Own}
 use Rattle.xs_word_desk.specs.Shown.{shown, after_step}
 use Rattle.xs_word_desk.specs.Traced.{Traced, IsEvent}
 use Rattle.xs_word_desk.proofs.SumLemmas.{term_le}
+use Rattle.xs_word_desk.proofs.SeatSteps.{chief_first}
 use Rattle.xs_word_desk.proofs.ClaimSteps.{alone_sum, unmoved, won_in-most}
 use Rattle.xs_word_desk.proofs.Lifts.{quiet}
 use Rattle.xs_word_desk.proofs.Traces.{traces}
@@ -35,6 +36,11 @@ module _ (told : Option Pictures) (p : PlanRecord) where
         let made = part.agrees.known (omega (arith, known, term_le (knows k) s.views id v me)) in
         let mine = alone_sum told p s id v (makes k) holds me solo (λ u ok joined. omega (arith, ok.gone joined k, ok.backed k)) in
         omega (arith, mine, part.agrees.made, made);
+    counted = λ live number.
+        let first = chief_first told p s.views id v holds.seats me live number in
+        let is : holds.seats.chief ≡ v =
+        some-injective holds.seats.chief v (sym holds.seats.first ∙ ap (get_elem? s.views) (sym first) ∙ me) in
+        subst (λ (c : View). length c.apart + c.joined + 1 ≡ c.next) is holds.seats.counted;
   }
 
   recalls_it :
@@ -45,7 +51,7 @@ module _ (told : Option Pictures) (p : PlanRecord) where
     keeps,
     tt,
     unmoved told p s id k m.1 m.0 m.0 holds me there (holds.views id m.0 me)
-        (record { live = refl; number = refl; next = refl; apart = refl })
+        (record { live = refl; number = refl; next = refl; apart = refl; joined = refl })
         (λ j. record {
           won = refl;
           made = refl;

@@ -170,6 +170,9 @@ module _ (told : Option Pictures) (p : PlanRecord) where
               omega (arith, most, times_push n v.next v.apart, none_at v.next n differ)
         ];
         positive = (omega (arith, positive.0, times_push 0 v.next v.apart, none_at v.next 0 (ne_of_gt positive.1)), omega arith);
+        counted =
+            let before = subst (λ (c : View). length c.apart + c.joined + 1 ≡ c.next) (sym is) seats.counted in
+            omega (arith, before, length-append v.apart (v.next ∷ []));
         others = λ j u at other. elim (at_snoc (set views id (with_split v)) (split_off v) u j at) [
           | inl old ↦ elim (at_set views id j (with_split v) u old) [
             | inl here ↦ absurd (other (here.0 ∙ first))
@@ -387,6 +390,9 @@ module _ (told : Option Pictures) (p : PlanRecord) where
             let before : (times 0 v.apart ≡ 0) × (0 < v.next) =
             subst (λ (c : View). (times 0 c.apart ≡ 0) × (0 < c.next)) (sym is) seats.positive in
             (omega (arith, before.0, less 0), before.1);
+        counted =
+            let before = subst (λ (c : View). length c.apart + c.joined + 1 ≡ c.next) (sym is) seats.counted in
+            omega (arith, before, length_without w.number v.apart apart);
         others = λ j u now not_first. elim (at_set (set views id both) other j joined_view u now) [
           | inl here ↦
               subst (λ (x : View). (x.apart ≡ []) × (x.live ≡ true → x.number ≢ 0)) here.1 (refl, λ alive. absurd (true≢false (sym alive)))

@@ -157,12 +157,12 @@ below-same (suc n) f a same =
 
 pub starts :
     (told : Option Pictures) (p : PlanRecord) → IsPlan p
-    → Traced told p (opening (replicate (length p.entries) 0) (no_tiles (length p.entries)) first_view)
+    → Traced told p (opening (replicate (length p.entries) 0) (no_tiles (length p.entries)) (first_view p))
 starts told p plan =
     let words : List ℕ = replicate (length p.entries) 0 in
-    let views : List View = first_view ∷ [] in record {
+    let views : List View = first_view p ∷ [] in record {
       board = opens told p plan;
-      own = λ id v at. subst (Own p) (only_first id v at).1 (own_first p);
+      own = λ id v at. subst (Own p) (only_first p id v at).1 (own_first p);
       events = [];
       ran = tt;
       shows = world_is _ _ _ _ _ _
@@ -175,5 +175,5 @@ starts told p plan =
   where
     tile_none :
         (k : ℕ) → get_or {A = ℕ} (replicate (length p.entries) 0) k 0 ≡ 0
-        → tile_at (replicate (length p.entries) 0) (first_view ∷ []) k ≡ Absent
-    tile_none k none = ap (λ n. tile_shown 0 (leaver (first_view ∷ []) k) (n / 16)) none
+        → tile_at (replicate (length p.entries) 0) (first_view p ∷ []) k ≡ Absent
+    tile_none k none = ap (λ n. tile_shown 0 (leaver (first_view p ∷ []) k) (n / 16)) none

@@ -48,13 +48,15 @@ pub record AtRest (v : View) : Type 0 where
   pub leaving : v.leaving ≡ None
 
 -- the chief before any step
-abbrev pub first_view : View
-first_view =
+abbrev pub first_view : PlanRecord → View
+first_view p =
     record {
+      plan = p;
       live = true;
       number = 0;
       next = 1;
       apart = [];
+      joined = 0;
       won = [];
       made = [];
       lost = [];
@@ -78,7 +80,7 @@ with_split v = record v { next = v.next + 1; apart = v.apart ++ v.next ∷ [] }
 
 -- that seat: it has the next number, and knows what the chief knows
 abbrev pub split_off : View → View
-split_off v = record first_view { number = v.next; next = 0; known = v.known }
+split_off v = record (first_view v.plan) { number = v.next; next = 0; known = v.known }
 
 -- a list of numbers without the first that is a number
 abbrev pub without : ℕ → List ℕ → List ℕ
@@ -90,6 +92,7 @@ abbrev pub with_joined : View → View → View
 with_joined v w =
     record v {
       apart = without w.number v.apart;
+      joined = v.joined + 1;
       won = v.won ++ w.won;
       made = v.made ++ w.made;
       lost = v.lost ++ w.lost;
@@ -99,4 +102,4 @@ with_joined v w =
 
 -- a seat that is joined has nothing
 abbrev pub joined_view : View
-joined_view = record first_view { live = false; next = 0 }
+joined_view = record (first_view no_plan) { live = false; next = 0 }

@@ -14,7 +14,7 @@ use Rattle.xs_word_desk.specs.Traced.{Traced}
 
 -- its plan, the aliases that were made, the reads that were served, and how many tiles were still held
 abbrev pub closed_plan : Closed → PlanRecord
-closed_plan c = c.plan.value
+closed_plan c = c.chief.value.seat.me.0.plan
 
 abbrev pub closed_made : Closed → List ℕ
 closed_made c = map (λ (s : Signed). s.item) c.chief.value.seat.me.0.made

@@ -6,7 +6,7 @@ use Rattle.xs_core.specs.Views.{DeskView, entries, times}
 use Rattle.xs_word_desk.specs.declared.view.View.{View}
 use Rattle.xs_word_desk.specs.Seen.{wins, makes, knows}
 use Rattle.xs_word_desk.specs.Rule.{ViewOk}
-use Rattle.xs_word_desk.specs.Changes.{AtRest}
+use Rattle.xs_word_desk.specs.Changes.{AtRest, without}
 use Rattle.xs_word_desk.specs.Plays.{IsSolo}
 use Rattle.xs_word_desk.specs.Own.{Own}
 
@@ -45,6 +45,7 @@ desk_view id v =
 
 -- what a seat at rest keeps
 pub record Keeps (p : PlanRecord) (v : View) : Type 0 where
+  pub plan : v.plan ≡ p
   pub rests : AtRest v
   pub ok : ViewOk p v
   pub own : Own p v
@@ -54,6 +55,8 @@ pub record Keeps (p : PlanRecord) (v : View) : Type 0 where
   -- the numbers of the seats that it split off are below the next one
   pub next : v.number ≡ 0 → 0 < v.next
   pub fresh : (number : ℕ) → 0 < times number v.apart → number < v.next
+  -- and each is apart or joined
+  pub counted : v.number ≡ 0 → length v.apart + v.joined + 1 ≡ v.next
 
 -- ---- seats that are split off and joined
 
@@ -84,10 +87,14 @@ pub record JoinTells (v o w : DeskView) : Type 0 where
 pub record MoreApart (was now : List ℕ) (number : ℕ) : Type 0 where
   pub new : times number was ≡ 0
   pub apart : now ≡ was ++ number ∷ []
+  pub more : length now ≡ length was + 1
 
--- where one is joined
-abbrev pub LessApart : (was now : List ℕ) → ℕ → Type 0
-LessApart was now number = (others : List ℕ) → times number others ≡ 0 → was ≡ others ++ number ∷ [] → now ≡ others
+-- where one is joined: it was apart, and is so no more; the one that was split off last leaves the others as they were
+pub record LessApart (was now : List ℕ) (number : ℕ) : Type 0 where
+  pub apart : 0 < times number was
+  pub rest : now ≡ without number was
+  pub fewer : length now + 1 ≡ length was
+  pub last : (others : List ℕ) → times number others ≡ 0 → was ≡ others ++ number ∷ [] → now ≡ others
 
 -- a seat has nothing claimed
 abbrev pub HasNothing : DeskView → Type 0

@@ -1,5 +1,5 @@
 -- What each kind of step tells its seat: of the step, the seat before, the word that it found and the seat after
-use Rattle.std.specs.Prelude.{◌≡◌, ◌≢◌, ◌<◌, ◌≤◌, ◌+◌, ◌-◌, ◌/◌, ◌%◌, ℕ, true, ◌==◌, cond, Option, Some, None, Result, MatchResult, [], ◌∷◌}
+use Rattle.std.specs.Prelude.{◌≡◌, ◌≢◌, ◌<◌, ◌≤◌, ◌+◌, ◌-◌, ◌/◌, ◌%◌, ℕ, true, ◌==◌, cond, Option, Some, None, Result, MatchResult, [], ◌∷◌, length}
 use Rattle.atomic_table.specs.Table.{Me, Step, rest}
 use Rattle.xs_pixel.specs.Picture.{Pictures}
 use Rattle.xs_raster.specs.declared.tile.Tile.{Tile}
@@ -93,10 +93,12 @@ retired p e st m word n =
     × (1 ≤ word / 16) × (word / 16 ≤ reads_in p)
     × (IsSolo m.0 → word / 16 - 1 ≡ lacking p n.0.served st.word)
 
--- what the words and the slots tell of any seat: it won nothing twice; alone, it made all that it knows to be ready
+-- what the words, the slots and the other seats tell of any seat: it won nothing twice; alone, it made all that it knows
+-- to be ready; each seat that the chief split off is apart or joined
 pub record Recalls (v : View) : Type 0 where
   pub once : (k : ℕ) → wins k v ≤ 1
   pub alone_made : IsSolo v → (k : ℕ) → 0 < knows k v → 0 < makes k v
+  pub counted : v.live ≡ true → v.number ≡ 0 → length v.apart + v.joined + 1 ≡ v.next
 
 -- it looked only for that
 abbrev pub recalled : Play

@@ -96,6 +96,8 @@ pub record SeatsOk (views : List View) : Type 0 where
   pub fresh : (n : ℕ) → 0 < times n chief.apart → n < chief.next
   pub once : (n : ℕ) → times n chief.apart ≤ 1
   pub positive : (times 0 chief.apart ≡ 0) × (0 < chief.next)
+  -- each that was split off is apart or joined
+  pub counted : length chief.apart + chief.joined + 1 ≡ chief.next
   pub others : (id : ℕ) (v : View) → get_elem? views id ≡ some v → id ≢ 0 → (v.apart ≡ []) × (v.live ≡ true → v.number ≢ 0)
 
 -- the whole: of the plan, one part for each alias, one for each view, and one on the seats

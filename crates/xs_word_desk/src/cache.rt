@@ -8,7 +8,6 @@ use crate::desk::WordDesk;
 use crate::opening::{Table, open_table};
 use crate::steps::{Seat, Shared};
 use std::alloc::Global;
-use std::snapshot::Snapshot;
 use xs_base::Memory;
 use xs_core::{Desk, edge_of};
 use xs_pixel::Film;
@@ -20,13 +19,10 @@ use xs_plan::laws::reads_have_their_sources;
 #[derive(Drop)]
 pub struct Cache<K: Film> {
     pub(crate) table: Table<K>,
-    /// The plan, for the record of the cache.
-    pub(crate) plan: Snapshot<Plan>,
     /// How often each alias is read.
     pub(crate) reader_counts: Vec<u32>,
     /// The alias that each read reads.
     pub(crate) read_sources: Vec<u32>,
-    ghost same: { plan.value ≡ table.shared.key },
     ghost words: { table.shared.table_id.words ≡ length table.shared.key.entries },
     ghost there: { (e : ℕ) → e < reads_in table.shared.key → source_at table.shared.key e < length table.shared.key.entries },
     ghost some: { 0 < length table.shared.key.entries },
@@ -63,7 +59,6 @@ impl<K: Film> Cache<K> {
         let (table, seat) = open_table(alloc, p)?;
         let cache = Cache {
             table,
-            plan: Snapshot::of(p),
             reader_counts,
             read_sources,
         };

@@ -6,7 +6,6 @@ use crate::cache::{Cache, Pass};
 use std::alloc::Global;
 use std::snapshot::Snapshot;
 use xs_pixel::Film;
-use xs_plan::Plan;
 use xs_raster::TileRef;
 
 /// The closing record of a cache, which only its closing makes. It keeps the number of tiles alone; contracts see the
@@ -14,7 +13,6 @@ use xs_raster::TileRef;
 #[derive(Drop)]
 pub struct Closed {
     tiles: u32,
-    plan: Snapshot<Plan>,
     chief: Snapshot<Pass>,
 }
 
@@ -49,13 +47,12 @@ impl<K: Film> Cache<K> {
         let chief = Snapshot::of(&pass);
         let Cache {
             table,
-            plan,
             reader_counts: _,
             read_sources: _,
         } = self;
         let Pass { seat } = pass;
         let tiles = take_out(table.close_with(seat));
-        Closed { tiles, plan, chief }
+        Closed { tiles, chief }
     }
 }
 

@@ -21,7 +21,7 @@ pub struct WordDesk<'a, K: Film> {
 }
 
 impl<'a, K: Film> WordDesk<'a, K> {
-    ghost use Rattle.std.specs.Prelude.{◌≢◌};
+    ghost use Rattle.std.specs.Prelude.{◌≢◌, ◌↔◌, true, length};
     ghost use Rattle.xs_word_desk.specs.Desks.{home_of, desk_view, SplitTells, JoinTells, MoreApart, LessApart, HasNothing};
 
     /// The desk of a seat.
@@ -43,6 +43,14 @@ impl<'a, K: Film> WordDesk<'a, K> {
     {
         let WordDesk { cache: _, seat } = self;
         Pass { seat }
+    }
+
+    /// Tells that a chief is alone exactly where no seat that it split off is apart.
+    pub fn tells_whether_alone(&self)
+        ensures { (⟦<WordDesk<'a, K> as Desk<K>>⟧.view self.now).number ≡ 0
+            → ((⟦<WordDesk<'a, K> as Desk<K>>⟧.view self.now).solo ≡ true) ↔ (length self.now.seat.me.0.apart ≡ 0) }
+    {
+        let _ = self;
     }
 
     /// Splits a seat with the next number off the chief. It knows what the chief knows.

@@ -4,6 +4,7 @@
 
 mod cache;
 mod closing;
+mod crossing;
 mod desk;
 pub mod laws;
 mod opening;
@@ -17,4 +18,5 @@ mod words;
 
 pub use cache::{Cache, Pass};
 pub use closing::Closed;
+pub use crossing::caches_cross_threads;
 pub use desk::WordDesk;

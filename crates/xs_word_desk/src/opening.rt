@@ -19,7 +19,7 @@ pub(crate) fn open_table<K: Film>(alloc: Global, p: &Plan) -> Result<(Table<K>, 
     ensures counts { IfOk result (λ t. (t.0.shared.table_id.words ≡ length p.now.entries)
         × (t.0.shared.table_id.slots ≡ length p.now.entries)) }
     ensures plan { IfOk result (λ t. t.0.shared.key ≡ p.now) }
-    ensures seat { IfOk result (λ t. (t.1.table_id ≡ t.0.shared.table_id) × (t.1.me ≡ (first_view, []))) }
+    ensures seat { IfOk result (λ t. (t.1.table_id ≡ t.0.shared.table_id) × (t.1.me ≡ (first_view p.now, []))) }
 {
     let aliases = p.aliases() as usize;
     let words = vec![in alloc; UNCLAIMED; aliases]?;

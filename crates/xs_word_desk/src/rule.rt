@@ -16,5 +16,5 @@ pub struct Rule<K: Film>(PhantomData<K>);
 impl<K: Film> TableRule<Option<TileRef>, View, Plan> for Rule<K> {
     ghost holds = { Traced K.pictures };
 
-    ghost first = { λ _. first_view };
+    ghost first = { first_view };
 }

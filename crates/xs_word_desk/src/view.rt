@@ -1,5 +1,6 @@
 ghost use Rattle.std.specs.Prelude.{ℕ, Bool, List, Option};
 ghost use Rattle.std.specs.Borrow.{ftrue};
+ghost use Rattle.xs_plan.specs.Record.{PlanRecord};
 ghost use Rattle.xs_core.specs.Views.{Signed, Meeting};
 
 use std::marker::Model;
@@ -7,6 +8,8 @@ use std::marker::Model;
 /// What one seat knows of the cache, and what it is at. Aliases, reads and seats are numbered from 0. No value of it is
 /// made.
 pub struct View {
+    /// The plan of the cache.
+    pub ghost plan: { PlanRecord },
     /// The seat is not joined.
     pub ghost live: { Bool },
     /// The seat's number, 0 for the chief.
@@ -15,6 +18,8 @@ pub struct View {
     pub ghost next: { ℕ },
     /// The chief's: the numbers of the seats that are split off and not joined.
     pub ghost apart: { List ℕ },
+    /// The chief's: how many seats it has joined.
+    pub ghost joined: { ℕ },
     /// The aliases that it won, made and lost, and the reads that it served.
     pub ghost won: { List Signed },
     pub ghost made: { List Signed },

@@ -16,7 +16,6 @@ invariant_of-cache g c =
     let few : length p.entries < 2 ^ 32 = omega (arith, valid.few_aliases) in
     let few_reads : reads_in p < 2 ^ 32 = search rules in
     record {
-      same = c.of.ensures ∙ same;
       words = c.in_ok-table.ensures.counts.0 ∙ ap (λ (q : PlanRecord). length q.entries) same;
       there = subst (λ (q : PlanRecord). (e : ℕ) → e < reads_in q → source_at q e < length q.entries) same
           (λ e less. All-get_or (λ k. k < length p.entries) (sources p) e 0 less exist);

@@ -34,6 +34,9 @@ pub returns-clause-apart : goal.returns-clause-apart
 returns-clause-apart g c =
     let d = c.args.self.now in
     let o = c.args.other in
-    let after = ap (λ (m : At). m.0.apart) (c.recall.ensures.told.0 ∙ c.join.ensures.both) in
+    let p = d.cache.now.table.shared.key in
+    let told = c.recall.ensures.told in
+    let recalls : Recalls (with_joined d.seat.me.0 o.seat.me.0) = subst Recalls (ap (λ (m : At). m.0) c.join.ensures.both) told.1 in
+    let after = ap (λ (m : At). m.0.apart) (told.0 ∙ c.join.ensures.both) in
     subst (λ (now : List ℕ). LessApart d.seat.me.0.apart now o.seat.me.0.number) (sym after)
-    (less_apart d.seat.me.0.apart o.seat.me.0.number)
+    (less_apart p d.seat.me.0 o.seat.me.0 c.requires.chief d.keeps recalls)

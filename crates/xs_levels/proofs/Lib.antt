@@ -1,0 +1,11 @@
+pub mod SceneKinds
+pub mod Drawn
+pub mod Shown
+pub mod LevelCodes
+pub mod Members
+pub mod Counting
+pub mod Lasting
+pub mod Passing
+pub mod Taking
+pub mod Refusing
+pub mod Ending

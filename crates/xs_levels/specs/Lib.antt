@@ -1,0 +1,4 @@
+pub mod Table
+pub mod Films
+pub mod Stocked
+pub mod Loading
