@@ -74,7 +74,7 @@ save("lines", [outer, inner], w=128, h=128)
 END
 for scene in sheets nodes filters wide-card wide-filters; do
     printf '%-14s' "$scene"
-    "$program" dry "$scene.json" 1 1 | head -n 1
+    "$program" dry "$scene.json" 1 1 | sed -n 1p
 done
 for time in 1 2 3 4 5; do
     "$program" dry-lines lines.json 1 512 >lines
