@@ -1,8 +1,8 @@
 -- Flags up to the last one that is set
-use Rattle.std.proofs.Common.{◌≡◌, ℕ, zero, suc, ◌+◌, ◌-◌, ◌<◌, ◌≤◌, Bool, true, false, List, [], ◌∷◌, ◌++◌, map, length, take, get_or, ltb, eqb, ◌&&◌, ◌||◌, min, refl, sym, ap, ap₂, ◌∙◌, arith, ⊎_elim}
+use Rattle.std.proofs.Common.{◌≡◌, ℕ, zero, suc, ◌+◌, ◌-◌, ◌<◌, ◌≤◌, Bool, true, false, List, [], ◌∷◌, ◌++◌, map, length, take, get_or, min, refl, sym, ap, ap₂, ◌∙◌, arith, ⊎_elim}
 use Rattle.std.specs.List.{range_with_len}
 use Rattle.std.proofs.Math.Path.{fun_ext}
-use Rattle.std.proofs.lemmas.Bool.{cases_lt, cases_eq, lt-ltb, le-ltb, eq-eqb, ne_eqb}
+use Rattle.std.proofs.lemmas.Bool.{cases_lt}
 use Rattle.std.proofs.lemmas.List.{get_or_past}
 use Rattle.std.proofs.lemmas.List.FromFn.{length-map-range_with_len, get_or-map-range_with_len}
 use Rattle.xs_pixel.specs.Channels.{Channels, clear}
@@ -83,56 +83,6 @@ set-of f n past = fun_ext each
         get_or_past (map f (range_with_len 0 n)) i false (omega (arith, length-map-range_with_len f 0 n))
         ∙ sym (past i le))
         (cases_lt i n)
-
--- ---- a set as a list
-
-or-false : (b : Bool) → (b || false) ≡ b
-or-false true = refl
-or-false false = refl
-
-listed-other : (id style : ℕ) → (style ≡ id → ⊥) → ltb style id ≡ ltb style (id + 1)
-listed-other id style differ =
-    ⊎_elim (λ lt. lt-ltb style id lt ∙ sym (lt-ltb style (id + 1) (omega (arith, lt))))
-    (λ le.
-    le-ltb style id le
-    ∙ sym (le-ltb style (id + 1)
-    (⊎_elim (λ lt. let next : id + 1 ≤ style = omega (arith, lt) in next)
-    (λ ge. let none : ⊥ = differ (omega (arith, le, ge)) in absurd none) (cases_lt id style))))
-    (cases_lt style id)
-
-pub listed-one :
-    (f : ℕ → Bool) (id style : ℕ) → f id ≡ true
-    → ((ltb style id && f style) || (eqb id style || false)) ≡ (ltb style (id + 1) && f style)
-listed-one f id style set = ⊎_elim this other (cases_eq style id)
-  where
-    this : style ≡ id → ((ltb style id && f style) || (eqb id style || false)) ≡ (ltb style (id + 1) && f style)
-    this same =
-        ap₂ (λ x y. x || (y || false)) (ap (λ b. b && f style) (le-ltb style id (omega (arith, same)))) (eq-eqb id style (sym same))
-        ∙ sym (ap₂ (λ x y. x && y) (lt-ltb style (id + 1) (omega (arith, same))) (ap f same ∙ set))
-
-    other : (style ≡ id → ⊥) → ((ltb style id && f style) || (eqb id style || false)) ≡ (ltb style (id + 1) && f style)
-    other differ =
-        ap (λ y. (ltb style id && f style) || (y || false)) (ne_eqb id style (λ e. differ (sym e)))
-        ∙ or-false (ltb style id && f style)
-        ∙ ap (λ b. b && f style) (listed-other id style differ)
-
-pub listed-none :
-    (f : ℕ → Bool) (id style : ℕ) → f id ≡ false → (ltb style id && f style) ≡ (ltb style (id + 1) && f style)
-listed-none f id style unset = ⊎_elim this other (cases_eq style id)
-  where
-    this : style ≡ id → (ltb style id && f style) ≡ (ltb style (id + 1) && f style)
-    this same =
-        ap (λ b. b && f style) (le-ltb style id (omega (arith, same)))
-        ∙ sym (ap₂ (λ x y. x && y) (lt-ltb style (id + 1) (omega (arith, same))) (ap f same ∙ unset))
-
-    other : (style ≡ id → ⊥) → (ltb style id && f style) ≡ (ltb style (id + 1) && f style)
-    other differ = ap (λ b. b && f style) (listed-other id style differ)
-
-pub listed-all : (flags : List Bool) (style : ℕ) → (ltb style (length flags) && styles_in flags style) ≡ styles_in flags style
-listed-all flags style =
-    ⊎_elim (λ lt. ap (λ b. b && styles_in flags style) (lt-ltb style (length flags) lt))
-    (λ le. ap (λ b. b && styles_in flags style) (le-ltb style (length flags) le) ∙ sym (get_or_past flags style false le))
-    (cases_lt style (length flags))
 
 -- ---- how many flags there are up to the last that is set
 

@@ -26,7 +26,7 @@ fn drawing_styles(alloc: Global, s: &GoodScene, d: u32, row: u32) -> Result<Styl
         Kind::Colour => Ok(StyleSet::empty(alloc)),
         Kind::Cm32(palette) => {
             let colours = &s.scene().palettes.items()[palette as usize];
-            let none = Dropped::none(alloc)?;
+            let none = Dropped::none(alloc);
             let shown = palette_at(alloc, colours, row, &none)?;
             let styles = StyleSet::unclear(alloc, &shown)?;
             Ok(styles)

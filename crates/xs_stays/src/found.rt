@@ -150,8 +150,7 @@ impl Remembered {
         let Some(found) = found else {
             return Ok(None);
         };
-        let none = Dropped::none(alloc)?;
-        let filter = none.with(alloc, keep, styles)?;
+        let filter = Dropped::none(alloc).with(alloc, keep, styles)?;
         let left = self.styles(found.styles).less(alloc, &filter)?;
         let styles = self.number(left)?;
         Ok(Some(Found { styles, ..found }))

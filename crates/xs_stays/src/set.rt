@@ -155,15 +155,8 @@ impl StyleSet {
     pub fn as_dropped(&self, alloc: Global) -> Result<Dropped, Memory>
         ensures { IfOk result (λ d. dropped_by d ≡ styles_in self.now) }
     {
-        let mut styles = Vec::new(alloc);
-        for id in 0..self.len() {
-            if self.has(id) {
-                styles.push(id)?;
-            }
-        }
-        let none = Dropped::none(alloc)?;
-        let dropped = none.with(alloc, false, &styles)?;
-        Ok(dropped)
+        let flags = Vec::from_slice(alloc, self.flags.as_slice())?;
+        Ok(Dropped::of(flags))
     }
 }
 

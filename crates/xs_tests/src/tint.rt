@@ -29,7 +29,7 @@ fn colours(alloc: Global) -> Result<Colours, Fail> {
 /// What is dropped below one filter of style 3.
 fn filter(alloc: Global, keep: bool) -> Result<Dropped, Fail> {
     let styles = List::of(vec![in alloc; 3u32]?);
-    Ok(Dropped::none(alloc)?.with(alloc, keep, styles.items())?)
+    Ok(Dropped::none(alloc).with(alloc, keep, styles.items())?)
 }
 
 /// The pixels of styles 0 to 4 at a row below the filter.

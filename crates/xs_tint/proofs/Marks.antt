@@ -1,8 +1,8 @@
 -- Flags of the styles that a filter lists
-use Rattle.std.proofs.Common.{◌≡◌, ℕ, zero, suc, replicate, ◌+◌, ◌<◌, ◌≤◌, Bool, true, false, ◌||◌, ◌&&◌, not, eqb, ltb, length, take, get_or, set, List, refl, sym, ap, ◌∙◌, ⊎_elim, subst, arith, get_or-set_same, get_or-set_other, All}
+use Rattle.std.proofs.Common.{◌≡◌, ℕ, zero, suc, replicate, ◌+◌, ◌<◌, ◌≤◌, Bool, true, false, ◌||◌, ◌&&◌, not, eqb, ltb, length, take, get_or, set, List, [], refl, sym, ap, ◌∙◌, ⊎_elim, subst, arith, get_or-set_same, get_or-set_other, All}
 use Rattle.std.proofs.Math.Path.{fun_ext}
 use Rattle.std.proofs.lemmas.Bool.{cases_eq, cases_lt, eq-eqb, ne_eqb, or_right, lt-ltb, le-ltb}
-use Rattle.std.proofs.lemmas.List.{get_or_past}
+use Rattle.std.proofs.lemmas.List.{get_or_past, length-replicate}
 use Rattle.std.proofs.lemmas.List.Folds.{list_any_more, list_any_none}
 use Rattle.xs_scene.specs.Ranges.{IsFiltered}
 use Rattle.xs_meaning.specs.Palettes.{none_dropped}
@@ -13,34 +13,53 @@ keeps : (a b : Bool) → b ≡ false → a ≡ (a || b)
 keeps true b fails = refl
 keeps false b fails = sym fails
 
-get_or-replicate_false : (n k : ℕ) → get_or (replicate n false) k false ≡ false
-get_or-replicate_false zero k = refl
-get_or-replicate_false (suc n) zero = refl
-get_or-replicate_false (suc n) (suc k) = get_or-replicate_false n k
+-- no flag at all drops nothing
+pub none_dropped-by_no_flags : dropped_by [] ≡ none_dropped
+none_dropped-by_no_flags = fun_ext (λ k. refl)
 
--- flags none of which is set drop nothing
-pub none_dropped-by_flags : (n : ℕ) → dropped_by (replicate n false) ≡ none_dropped
-none_dropped-by_flags n = fun_ext (λ k. get_or-replicate_false n k)
+drops_listed : (keep : Bool) → drops keep false true ≡ not keep
+drops_listed true = refl
+drops_listed false = refl
 
--- the flag of one more listed style is set
-pub marks_more :
-    (styles : List ℕ) (marks : List Bool) (i style : ℕ) → i < length styles → style ≡ get_or styles i 0
-    → style < length marks
-    → ((k : ℕ) → k < 4096 → get_or marks k false ≡ is_listed (take i styles) k)
-    → (k : ℕ) → k < 4096 → get_or (set marks style true) k false ≡ is_listed (take (i + 1) styles) k
-marks_more styles marks i style within is inside marked k small =
+get_or-replicate : (n k : ℕ) (b d : Bool) → k < n → get_or (replicate n b) k d ≡ b
+get_or-replicate zero k b d within = absurd (omega arith)
+get_or-replicate (suc n) zero b d within = refl
+get_or-replicate (suc n) (suc k) b d within = get_or-replicate n k b d (omega arith)
+
+-- before any style is listed, a filter drops each style if it keeps the listed ones
+pub flags_of_none :
+    (keep : Bool) (flags : List Bool) → flags ≡ replicate 4096 keep
+    → (length flags ≡ 4096) × ((k : ℕ) → k < 4096 → get_or flags k false ≡ drops keep false false)
+flags_of_none keep flags is =
+    (ap length is ∙ length-replicate 4096 keep, λ k small. ap (λ xs. get_or xs k false) is ∙ get_or-replicate 4096 k keep false small ∙ unlisted keep)
+  where
+    unlisted : (keep : Bool) → keep ≡ drops keep false false
+    unlisted true = refl
+    unlisted false = refl
+
+-- one more style is listed
+pub flags_of_more :
+    (keep : Bool) (styles : List ℕ) (flags : List Bool) (i style : ℕ) → i < length styles → style ≡ get_or styles i 0
+    → style < length flags
+    → ((k : ℕ) → k < 4096 → get_or flags k false ≡ drops keep false (is_listed (take i styles) k))
+    → (k : ℕ) → k < 4096 → get_or (set flags style (not keep)) k false ≡ drops keep false (is_listed (take (i + 1) styles) k)
+flags_of_more keep styles flags i style within is inside before k small =
     rw (list_any_more (λ listed. eqb listed k) styles i 0 within) (⊎_elim this other (cases_eq k style))
   where
-    this : k ≡ style → get_or (set marks style true) k false ≡ (is_listed (take i styles) k || eqb (get_or styles i 0) k)
-    this same =
-        subst (λ (n : ℕ). get_or (set marks style true) n false ≡ (is_listed (take i styles) k || eqb (get_or styles i 0) k)) (sym same)
-        (get_or-set_same marks style true false inside
-        ∙ sym (or_right (is_listed (take i styles) k) (eqb (get_or styles i 0) k) (eq-eqb (get_or styles i 0) k (sym is ∙ sym same))))
+    found : Bool
+    found = eqb (get_or styles i 0) k
 
-    other : (k ≡ style → ⊥) → get_or (set marks style true) k false ≡ (is_listed (take i styles) k || eqb (get_or styles i 0) k)
+    this : k ≡ style → get_or (set flags style (not keep)) k false ≡ drops keep false (is_listed (take i styles) k || found)
+    this same =
+        subst (λ (n : ℕ). get_or (set flags style (not keep)) n false ≡ drops keep false (is_listed (take i styles) k || found)) (sym same)
+        (get_or-set_same flags style (not keep) false inside
+        ∙ sym (ap (drops keep false) (or_right (is_listed (take i styles) k) found (eq-eqb (get_or styles i 0) k (sym is ∙ sym same)))
+        ∙ drops_listed keep))
+
+    other : (k ≡ style → ⊥) → get_or (set flags style (not keep)) k false ≡ drops keep false (is_listed (take i styles) k || found)
     other differ =
-        get_or-set_other marks style k true false differ ∙ marked k small
-        ∙ keeps (is_listed (take i styles) k) (eqb (get_or styles i 0) k) (ne_eqb (get_or styles i 0) k (λ e. differ (sym e ∙ sym is)))
+        get_or-set_other flags style k (not keep) false differ ∙ before k small
+        ∙ ap (drops keep false) (keeps (is_listed (take i styles) k) found (ne_eqb (get_or styles i 0) k (λ e. differ (sym e ∙ sym is))))
 
 -- a style that no filter can name is in no list of those that one can
 not_listed : (styles : List ℕ) (k : ℕ) → All IsFiltered styles → 4096 ≤ k → is_listed styles k ≡ false
@@ -48,24 +67,34 @@ not_listed styles k filtered large =
     list_any_none (λ listed. eqb listed k) styles
     (λ i d within. ne_eqb (get_or styles i d) k (λ same. absurd (omega (arith, filtered i d within))))
 
+-- where the flags of all styles that were dropped are set, a filter leaves each style so
+pub with_all_dropped :
+    (keep : Bool) (styles : List ℕ) (was new : List Bool) (id : ℕ) → length was ≤ id
+    → ((k : ℕ) → k < 4096 → k < id → get_or new k false ≡ drops keep (get_or was k false) (is_listed styles k))
+    → ((k : ℕ) → k < 4096 → id ≤ k → get_or new k false ≡ drops keep false (is_listed styles k))
+    → (k : ℕ) → k < 4096 → get_or new k false ≡ drops keep (get_or was k false) (is_listed styles k)
+with_all_dropped keep styles was new id end before after k small =
+    ⊎_elim (before k small)
+    (λ le. after k small le ∙ ap (λ b. drops keep b (is_listed styles k)) (sym (get_or_past was k false (omega arith))))
+    (cases_lt k id)
+
 -- a filter of styles below 4096, by its flags
 pub filtering-by_flags :
-    (keep : Bool) (styles : List ℕ) (was marks new : List Bool)
-    → All IsFiltered styles → length was ≡ 4096 → length new ≡ 4096
-    → ((k : ℕ) → k < 4096 → get_or marks k false ≡ is_listed styles k)
-    → ((k : ℕ) → k < 4096 → get_or new k false ≡ drops keep (get_or was k false) (get_or marks k false))
+    (keep : Bool) (styles : List ℕ) (was new : List Bool)
+    → All IsFiltered styles → length was ≤ 4096 → length new ≡ 4096
+    → ((k : ℕ) → k < 4096 → get_or new k false ≡ drops keep (get_or was k false) (is_listed styles k))
     → dropped_by new ≡ filtering keep styles (dropped_by was)
-filtering-by_flags keep styles was marks new filtered was_long new_long marked filters =
+filtering-by_flags keep styles was new filtered was_long new_long filters =
     fun_ext (λ k. ⊎_elim (inside keep k filters) (beyond keep k) (cases_lt k 4096))
   where
     inside :
         (keep : Bool) (k : ℕ)
-        → ((k : ℕ) → k < 4096 → get_or new k false ≡ drops keep (get_or was k false) (get_or marks k false))
+        → ((k : ℕ) → k < 4096 → get_or new k false ≡ drops keep (get_or was k false) (is_listed styles k))
         → k < 4096 → get_or new k false ≡ filtering keep styles (dropped_by was) k
     inside true k filters small =
-        filters k small ∙ ap (λ b. get_or was k false || not b) (marked k small)
+        filters k small
         ∙ ap (λ b. get_or was k false || (b && not (is_listed styles k))) (sym (lt-ltb k 4096 small))
-    inside false k filters small = filters k small ∙ ap (λ b. get_or was k false || b) (marked k small)
+    inside false k filters small = filters k small
 
     beyond : (keep : Bool) (k : ℕ) → 4096 ≤ k → get_or new k false ≡ filtering keep styles (dropped_by was) k
     beyond true k large =

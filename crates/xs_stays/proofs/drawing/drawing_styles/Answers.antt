@@ -29,6 +29,6 @@ returns-in_ok-styles-in-Cm32 c =
     ∙ get_or_default s.palettes palette held no_colours c.in-Cm32.ensures.palette in
     let shown : (ℕ → Channels) → ℕ → Bool = λ pixels style. not (is_clear_pixel (pixels style)) in
     c.in_ok-styles-in-Cm32.ensures
-    ∙ ap shown (c.in_ok-shown-in-Cm32.ensures.styles ∙ ap (style_at held c.args.row) c.in_ok-none-in-Cm32.ensures)
+    ∙ ap shown (c.in_ok-shown-in-Cm32.ensures.styles ∙ ap (style_at held c.args.row) c.none-none.ensures)
     ∙ ap (λ (p : Option ColoursRecord). unclear p c.args.row none_dropped)
     (ap (λ (x : ColoursRecord). Some x) colours ∙ sym (colours-by_kind s c.args.d (Cm32 palette) c.in-Cm32.ensures.value))

@@ -11,7 +11,7 @@ pub returns-clause-found : goal.returns-clause-found
 returns-clause-found c =
     let sets = c.args.self.now.sets.keys in
     let filter : dropped_by c.in_ok-filter.filter ≡ filtering c.args.keep c.args.styles.now none_dropped =
-    c.in_ok-filter.ensures ∙ ap (filtering c.args.keep c.args.styles.now) c.in_ok-none.ensures in
+    c.in_ok-filter.ensures ∙ ap (filtering c.args.keep c.args.styles.now) c.none.ensures in
     let but : (ℕ → Bool) → (ℕ → Bool) → ℕ → Bool = λ f g style. f style && not (g style) in
     let found : Option Found = Some (record c.in-Some.found { styles = c.in_ok-styles.styles }) in
     subst
