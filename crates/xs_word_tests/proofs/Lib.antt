@@ -1,0 +1,2 @@
+mod HandLemmas
+mod SmallPlans
