@@ -1,15 +1,19 @@
 #!/bin/sh
-# Prints the path of the program that times parts of the renderer: the one that XS_TIMING names; else that of this
-# checkout, which is proved and built first where it is missing or older than a source.
+# Prints the path of a program that times parts of the renderer: xs_timing, or the one that is named. It is the one that a
+# variable of its name in capitals names; else that of this checkout, which is proved and built first where it is missing
+# or older than a source.
 #
-#     XS_TIMING=PROGRAM bench/dry.sh
+#     bench/program.sh [PROGRAM]
+#     XS_TIMING=PATH bench/dry.sh
 set -eu
 top=$(cd "$(dirname "$0")/.." && pwd)
-if [ -n "${XS_TIMING-}" ]; then
-    readlink -f -- "$XS_TIMING"
+name=${1-xs_timing}
+given=$(printenv "$(printf %s "$name" | tr a-z A-Z)" || true)
+if [ -n "$given" ]; then
+    readlink -f -- "$given"
     exit
 fi
-program=$top/crates/xs_timing/out/xs_timing
+program=$top/crates/$name/out/$name
 
 is_built() {
     [ -x "$program" ] && [ -z "$(find "$top/crates.txt" "$top"/crates/*/src "$top"/crates/*/specs \
@@ -20,6 +24,6 @@ if ! is_built; then
     log=$(mktemp)
     trap 'rm -f "$log"' EXIT
     # Without words the program lists its parts and ends with 2.
-    (cd "$top/crates/xs_timing" && rt run >"$log" 2>&1) || grep -q '^rt: running' "$log" || { cat "$log" >&2; exit 1; }
+    (cd "$top/crates/$name" && rt run >"$log" 2>&1) || grep -q '^rt: running' "$log" || { cat "$log" >&2; exit 1; }
 fi
 printf '%s\n' "$program"

@@ -37,6 +37,18 @@ is_file a bytes is =
     ∙ ap (λ (header : List ℕ). header ++ drop FRAME_HEADER bytes) is.header
     ∙ ap (λ (rest : List ℕ). frame_header_of a.w a.h ++ rest) (sym (bytes_of-pixels (a.w * a.h) (drop FRAME_HEADER bytes) long))
 
+-- it has a pixel for each point
+length-pixels : (n : ℕ) (xs : List ℕ) → length xs ≡ 4 * n → length (pixels xs) ≡ n
+length-pixels n [] whole = omega (arith, whole)
+length-pixels n (r ∷ []) whole = absurd (omega arith)
+length-pixels n (r ∷ g ∷ []) whole = absurd (omega arith)
+length-pixels n (r ∷ g ∷ b ∷ []) whole = absurd (omega arith)
+length-pixels n (r ∷ g ∷ b ∷ m ∷ xs) whole = let rest = length-pixels (n - 1) xs (omega arith) in omega (arith, whole, rest)
+
+pub has_all_pixels : (a : Area) (bytes : List ℕ) → IsCanvas a bytes → length (pixels_behind bytes) ≡ a.w * a.h
+has_all_pixels a bytes is =
+    length-pixels (a.w * a.h) (drop FRAME_HEADER bytes) (omega (arith, length-drop FRAME_HEADER bytes, is.whole))
+
 -- ---- the clear canvas
 
 header_long : (w h : ℕ) → length (frame_header_of w h) ≡ FRAME_HEADER

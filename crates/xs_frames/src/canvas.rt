@@ -50,9 +50,10 @@ impl Canvas {
         paste_behind(&mut self.bytes, self.rect, t);
     }
 
-    /// The bytes of the file.
+    /// The bytes of the file. It has four for each pixel, and a pixel for each point.
     pub(crate) fn bytes(&self) -> &[u8]
-        ensures { result.now ≡ frame_file_of self.now }
+        ensures file { result.now ≡ frame_file_of self.now }
+        ensures whole { length self.now.pixels ≡ self.now.area.w * self.now.area.h }
     {
         self.bytes.as_slice()
     }

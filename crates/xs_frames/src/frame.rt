@@ -1,4 +1,4 @@
-ghost use Rattle.std.specs.Prelude.{◌≡◌, ◌<◌, ◌≤◌, [], ◌∷◌, true, length, IfOk, OnOk, OnErr};
+ghost use Rattle.std.specs.Prelude.{◌≡◌, ◌<◌, ◌≤◌, ◌*◌, [], ◌∷◌, true, length, IfOk, OnOk, OnErr};
 ghost use Rattle.xs_base.specs.declared.limits.TheConstants.{LONGEST_CAMERA_SIDE};
 ghost use Rattle.xs_rect.specs.Tiles.{IsCut};
 ghost use Rattle.xs_rawfile.specs.Frame.{frame_file_of};
@@ -7,7 +7,7 @@ ghost use Rattle.xs_plan.specs.Reads.{root_read_of};
 ghost use Rattle.xs_core.specs.Views.{Knows, entries, signed};
 ghost use Rattle.xs_core.specs.Calls.{Adds, HoldsTile, Stays};
 ghost use Rattle.xs_frames.specs.Rows.{MayGather, Serves, ServesSome};
-ghost use Rattle.xs_frames.specs.Frames.{IsFrame, ShowsRow, Stands, clear_frame};
+ghost use Rattle.xs_frames.specs.Frames.{IsFrame, IsPainted, ShowsRow, Stands, clear_frame};
 
 use crate::canvas::Canvas;
 use crate::root::{root_read, tile_of};
@@ -87,10 +87,13 @@ impl<K: Film> Frame<K> {
         Ok(())
     }
 
-    /// The bytes of the frame file.
+    /// The bytes of the frame file. It has a pixel for each point, and the plan's tiles cut it.
     pub fn bytes(&self) -> &[u8]
-        ensures { result.now ≡ frame_file_of self.now.image }
+        ensures file { result.now ≡ frame_file_of self.now.image }
+        ensures whole { length self.now.image.pixels ≡ self.now.image.area.w * self.now.image.area.h }
+        ensures painted { IsPainted self.now.plan self.now.image }
     {
+        self.look_over();
         self.canvas.bytes()
     }
 

@@ -9,3 +9,4 @@ pub mod Passing
 pub mod Taking
 pub mod Refusing
 pub mod Ending
+pub mod Written

@@ -1,37 +1,32 @@
--- Lemmas on a worker that leads a section
-use Rattle.std.proofs.Common.{◌≡◌, ℕ, List, [], true, subst, ◌∙◌}
-use Rattle.xs_plan.specs.Record.{PlanRecord}
-use Rattle.xs_core.specs.Views.{DeskView, DeskOk, entries}
-use Rattle.xs_worker.specs.declared.advanced.Advanced.{Advanced}
-use Rattle.xs_worker.specs.declared.advanced.Advanced.TheVariants.{Finished}
-use Rattle.xs_worker.specs.Claims.{Grew}
-use Rattle.xs_worker.specs.Advances.{Standing, HasFinished, AdvancedTells}
-use Rattle.xs_worker.specs.Sections.{AreRoots, Gained, AreKnown, section_roots}
+-- Lemmas on a section that is made where all drawings are held
+use Rattle.std.proofs.Common.{◌≡◌, ◌<◌, ◌↔◌, ◌-◌, ◌*◌, ◌/◌, ℕ, Option, Some, IfSome, IsSome, Contains, length, sym, ap, subst, ◌∙◌, arith}
+use Rattle.xs_base.specs.declared.limits.TheConstants.{SECTION_ROWS}
+use Rattle.xs_rawfile.specs.Held.{Held, slot_in}
+use Rattle.xs_plan.specs.Record.{PlanRecord, entry_at, drawing_of, rows_in}
+use Rattle.xs_plan.specs.Reads.{root_read_of}
+use Rattle.xs_plan.specs.Sections.{first_section}
+use Rattle.xs_plan.specs.Needed.{needs}
+use Rattle.xs_core.specs.Views.{DeskView, entries}
+use Rattle.xs_worker.specs.Sections.{AreUngathered}
+use Rattle.xs_render.specs.Progress.{AreHeld, IsRendered, row_at, rows_of_section}
+use Rattle.xs_sections.specs.Drawn.{AreAllDrawn}
 
--- what a worker that came to the end of a section's targets leaves
-pub record Led (p : PlanRecord) (s : ℕ) (targets : List ℕ) (v w : DeskView) : Type 0 where
-  pub roots : AreRoots p s targets
-  pub ok : DeskOk p v
-  pub new_ok : DeskOk p w
-  pub alone : w.solo ≡ true
-  pub gained : Gained p targets v w
-  pub settled : (k : ℕ) → entries k w.won ≡ entries k w.made
-  pub known : AreKnown w targets
+-- a section needs the drawings of the aliases that come first in it
+abbrev pub TellsNeeds : Type 0
+TellsNeeds = (p : PlanRecord) (s d : ℕ) → Contains (needs p s) d
+    ↔ ((k : ℕ) × (k < length p.entries) × (first_section p k ≡ s) × (drawing_of (entry_at p.entries k).job ≡ Some d))
 
-pub led :
-    (p q r : PlanRecord) (s : ℕ) (st new : Standing) (v w : DeskView) (b c : List ℕ) (a : Advanced) → q ≡ p → r ≡ p → DeskOk q v → DeskOk r w
-    → v.solo ≡ true → st.targets ≡ section_roots p s → AreRoots p s (section_roots p s) → a ≡ Finished → AdvancedTells p st v b a new w c
-    → (DeskOk p v → HasFinished p st v b new w c → (k : ℕ) → entries k w.won ≡ entries k w.made)
-    → (Grew p st.targets v w b c [] [] → Gained p st.targets v w) → Led p s st.targets v w
-led p q r s st new v w b c a same still ok new_ok alone are roots is told settled gained =
-    let done : HasFinished p st v b new w c = subst (λ (x : Advanced). AdvancedTells p st v b x new w c) is told in
-    let old : DeskOk p v = subst (λ (o : PlanRecord). DeskOk o v) same ok in
-    record {
-      roots = rw are roots;
-      ok = old;
-      new_ok = subst (λ (o : PlanRecord). DeskOk o w) still new_ok;
-      alone = done.grew.adds.solo ∙ alone;
-      gained = gained done.grew;
-      settled = settled old done;
-      known = done.ready;
-    }
+pub all_held : TellsNeeds → (p : PlanRecord) (s : ℕ) (h : Held) → AreAllDrawn p h → AreHeld h (needs p s)
+all_held tells p s h drawn d needed =
+    let o = (tells p s d).0 needed in
+    subst (λ (x : Option ℕ). IfSome x (λ d. IsSome (slot_in h d))) o.3 (drawn o.0)
+
+pub none_gathered : (p : PlanRecord) (s : ℕ) (v : DeskView) → IsRendered p s 0 v → AreUngathered p s v
+none_gathered p s v rendered e at = waits at.row at.tile at.row_there at.row_in at.tile_there at.is
+  where
+    waits : (row tile : ℕ) → row < rows_in p → row / SECTION_ROWS ≡ s → tile < length p.tiles → e ≡ root_read_of p row tile → entries e v.served ≡ 0
+    waits row tile there here tile_there is =
+        let within : row - s * SECTION_ROWS < rows_of_section p s = omega (arith, there, here) in
+        let same : row_at s (row - s * SECTION_ROWS) ≡ row = omega (arith, here) in
+        subst (λ (r : ℕ). entries r v.served ≡ 0) (ap (λ (n : ℕ). root_read_of p n tile) same ∙ sym is)
+        (rendered.waiting (row - s * SECTION_ROWS) tile (omega arith) within tile_there)

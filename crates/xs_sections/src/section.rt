@@ -1,7 +1,8 @@
-ghost use Rattle.std.specs.Prelude.{◌≡◌, ◌<◌, ◌+◌, ◌*◌, ℕ, true, OnOk};
+ghost use Rattle.std.specs.Prelude.{◌≡◌, ◌<◌, ◌*◌, true, OnOk};
 ghost use Rattle.xs_plan.specs.Record.{rows_in};
-ghost use Rattle.xs_core.specs.Views.{DeskOk, entries, times};
-ghost use Rattle.xs_worker.specs.Sections.{IsBegun, IsDone, AreUngathered, IsMadeIn};
+ghost use Rattle.xs_core.specs.Views.{DeskOk};
+ghost use Rattle.xs_worker.specs.Sections.{IsBegun, IsDone, AreUngathered};
+ghost use Rattle.xs_render.specs.Making.{MakesSection};
 ghost use Rattle.xs_sections.specs.Drawn.{AreAllDrawn};
 
 use std::alloc::Global;
@@ -11,13 +12,9 @@ use xs_bench::Bench;
 use xs_core::Desk;
 use xs_pixel::Film;
 use xs_plan::Plan;
+use xs_plan::laws::sections_need_the_drawings_of_their_aliases;
 use xs_rawfile::Drawings;
-use xs_worker::laws::{
-    a_section_is_done_when_its_targets_are_ready, new_workers_stand_where_nothing_is_claimed,
-    targets_of_a_section_are_its_roots, workers_gain_for_their_targets,
-    workers_that_are_alone_finish,
-};
-use xs_worker::{Advanced, Worker, section_targets};
+use xs_render::make_section;
 
 /// Tells what a seat keeps.
 pub(crate) fn look_over<K: Film, D: Desk<K>>(desk: &D)
@@ -26,8 +23,7 @@ pub(crate) fn look_over<K: Film, D: Desk<K>>(desk: &D)
     let _ = desk;
 }
 
-/// Leads the targets of a section to ready by one worker, at a seat that is alone. All that comes first in the section
-/// is made, each alias once, and nothing else; the bench computed the same.
+/// Makes all that comes first in a section at a seat that is alone, where the drawing of each alias of the plan is held.
 pub fn lead<K: Film, D: Desk<K>, B: Bench>(
     alloc: Global,
     p: &Plan,
@@ -38,6 +34,7 @@ pub fn lead<K: Film, D: Desk<K>, B: Bench>(
 ) -> Result<(), Memory>
     requires plan { D.plan desk.old ≡ p.now }
     requires there { s * SECTION_ROWS < rows_in p.now }
+    requires chief { (D.view desk.old).number ≡ 0 }
     requires alone { (D.view desk.old).solo ≡ true }
     requires begun { IsBegun p.now s (D.view desk.old) }
     requires drawn { AreAllDrawn p.now d.now }
@@ -46,25 +43,12 @@ pub fn lead<K: Film, D: Desk<K>, B: Bench>(
     ensures number { OnOk result ((D.view desk.new).number ≡ (D.view desk.old).number) }
     ensures done { OnOk result (IsDone p.now s (D.view desk.new)) }
     ensures ungathered { OnOk result (AreUngathered p.now s (D.view desk.new)) }
-    ensures made { OnOk result (IsMadeIn p.now s (D.view desk.old) (D.view desk.new)) }
-    ensures computed { OnOk result ((k : ℕ) → times k (B.made bench.new) + entries k (D.view desk.old).made
-        ≡ times k (B.made bench.old) + entries k (D.view desk.new).made) }
+    ensures makes { OnOk result (MakesSection p.now s (D.view desk.old) (D.view desk.new) (B.made bench.old)
+        (B.made bench.new)) }
 {
-    // what may be relied on in a plan
-    p.aliases();
-    new_workers_stand_where_nothing_is_claimed();
-    targets_of_a_section_are_its_roots();
-    workers_that_are_alone_finish();
-    workers_gain_for_their_targets();
-    a_section_is_done_when_its_targets_are_ready();
-    let mut worker = Worker::new(alloc, section_targets(alloc, p, s)?)?;
-    look_over(desk);
-    match worker.advance(alloc, p, desk, bench, d) {
-        Ok(Advanced::Finished) => {
-            look_over(desk);
-            Ok(())
-        }
-        Ok(Advanced::Blocked(_) | Advanced::Lost(_)) => unreachable!(),
+    sections_need_the_drawings_of_their_aliases();
+    match make_section(alloc, p, s, d, desk, bench) {
+        Ok(()) => Ok(()),
         Err(Memory) => Err(Memory),
     }
 }

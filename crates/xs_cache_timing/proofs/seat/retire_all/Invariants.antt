@@ -1,0 +1,10 @@
+use Rattle.std.proofs.Common.{◌≡◌, ◌≤◌}
+use Rattle.xs_cache_timing.specs.Blocks.{HasServed}
+use Rattle.xs_cache_timing.proofs.seat.retire_all.Given as goal
+
+abbrev pub invariant-loop-e : goal.invariant-loop-e
+invariant-loop-e g l = record {
+  plan : g.D.Desk.plan l.desk ≡ l.p;
+  served : HasServed l.block l.e (g.D.Desk.view l.desk);
+  few : l.let_go ≤ l.e;
+}

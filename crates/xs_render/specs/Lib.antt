@@ -1,0 +1,4 @@
+pub mod Progress
+pub mod Computed
+pub mod Making
+pub mod Scenes
