@@ -4,7 +4,7 @@ ghost use Rattle.std.specs.Prelude.{◌≡◌, None};
 ghost use Rattle.xs_rect.specs.Tiles.{IsCut};
 
 use crate::plans::{held, late};
-use crate::{Order, all_drawn, gather, gather_alone, lead, rows_of};
+use crate::{Order, all_drawn, gather, gather_alone, lead, render_all, rows_of};
 use std::alloc::Global;
 use std::marker::Brand;
 use std::process::Abort;
@@ -110,6 +110,34 @@ fn gathers_alone<K: Film>(rt: &impl Abort, alloc: Global, p: &Plan) -> Result<()
     );
     assert!(rt; desk.held() == 0, "nothing is held at the end");
     Ok(())
+}
+
+/// Renders all rows in order.
+fn renders_all<K: Film>(rt: &impl Abort, alloc: Global, p: &Plan) -> Result<(), Fail>
+    requires untold { K.pictures ≡ None }
+    requires tiles { IsCut 1 1 p.now.tiles }
+{
+    let d = held::<K>(alloc)?;
+    let ready = all_drawn(p, &d);
+    assert!(rt; ready, "the drawing is held");
+    let mut frame = Frame::<K>::new(alloc, p, 1, 1)?;
+    let mut desk = PlainDesk::<K>::new(alloc, p)?;
+    let mut bench = PlainBench::new(alloc);
+    render_all(alloc, p, &mut desk, &mut bench, &d, &mut frame)?;
+    assert!(rt; desk.held() == 0, "nothing is held at the end");
+    assert!(rt; frame.bytes() == SHOWN, "the last frame shows the drawing");
+    assert!(rt;
+        bench.computed() == [0u32, 1].as_slice(),
+        "each alias was computed once"
+    );
+    Ok(())
+}
+
+#[test]
+fn a_plan_is_rendered_row_by_row(rt: HostRuntime) -> Result<(), Fail> {
+    let alloc = rt.alloc();
+    let p = late(alloc, Rect::new(0, 0, 1, 1).ok_or("a tile")?)?;
+    renders_all::<Brand>(&rt, alloc, &p)
 }
 
 #[test]

@@ -10,8 +10,10 @@ mod order;
 mod plans;
 mod rows;
 mod section;
+mod whole;
 
 pub use checks::all_drawn;
 pub use order::{Order, rows_of};
 pub use rows::{gather, gather_alone};
 pub use section::lead;
+pub use whole::render_all;

@@ -1,8 +1,8 @@
-ghost use Rattle.std.specs.Prelude.{◌≡◌, ◌<◌, ◌*◌, true, OnOk};
+ghost use Rattle.std.specs.Prelude.{◌≡◌, ◌<◌, ◌*◌, true, OnOk, OnErr};
 ghost use Rattle.xs_plan.specs.Record.{rows_in};
 ghost use Rattle.xs_core.specs.Views.{DeskOk};
 ghost use Rattle.xs_worker.specs.Sections.{IsBegun, IsDone, AreUngathered};
-ghost use Rattle.xs_render.specs.Making.{MakesSection};
+ghost use Rattle.xs_render.specs.Making.{MakesSection, MakesPart};
 ghost use Rattle.xs_sections.specs.Drawn.{AreAllDrawn};
 
 use std::alloc::Global;
@@ -45,6 +45,7 @@ pub fn lead<K: Film, D: Desk<K>, B: Bench>(
     ensures ungathered { OnOk result (AreUngathered p.now s (D.view desk.new)) }
     ensures makes { OnOk result (MakesSection p.now s (D.view desk.old) (D.view desk.new) (B.made bench.old)
         (B.made bench.new)) }
+    ensures part { OnErr result (MakesPart (D.view desk.old) (D.view desk.new) (B.made bench.old) (B.made bench.new)) }
 {
     sections_need_the_drawings_of_their_aliases();
     match make_section(alloc, p, s, d, desk, bench) {
