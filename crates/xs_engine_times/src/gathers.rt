@@ -31,8 +31,8 @@ use xs_rawfile::{Drawing, Drawings, RawKind};
 use xs_sections::{Order, all_drawn, gather, lead, rows_of};
 use xs_worker::laws::the_first_section_is_begun_at_a_fresh_seat;
 
-/// The text of a scene of two sections of eight rows: a drawing that moves by a pixel in each row of the first, and stays
-/// where it is in the second.
+/// The text of a scene of three sections of eight rows: a drawing that moves by a pixel in each row of the first, and then
+/// stays where it is, so that no tile leaves after the second.
 fn scene() -> &'static str {
     r#"{
         "format": 2,
@@ -41,12 +41,12 @@ fn scene() -> &'static str {
         "levels": [{"kind": "colour", "drawings": ["d"]}],
         "sheets": [{
             "pegs": [{"keys": [{"row": 1, "x": 0, "y": 0, "line": true}, {"row": 8, "x": 7, "y": 0}]}],
-            "columns": [{"peg": 0, "cells": [{"from": 1, "to": 16, "level": 0, "drawing": 0}]}]
+            "columns": [{"peg": 0, "cells": [{"from": 1, "to": 24, "level": 0, "drawing": 0}]}]
         }]
     }"#
 }
 
-const ROWS: u32 = 16;
+const ROWS: u32 = 24;
 
 /// How often all is timed; the least time counts.
 const TIMES: u32 = 10;
@@ -79,7 +79,7 @@ fn held<K: Film>(alloc: Global) -> Result<Drawings<K>, Fault>
     Ok(drawings)
 }
 
-/// The nanoseconds of gathering both sections of a plan, at a new desk into a new frame of `w` by `h` points.
+/// The nanoseconds of gathering the first two sections of a plan, at a new desk into a new frame of `w` by `h` points.
 fn gather_both<K: Film, R: Clock>(
     rt: &R,
     alloc: Global,

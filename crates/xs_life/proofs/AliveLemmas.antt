@@ -1,15 +1,19 @@
 -- Aliases come to life and are read
-use Rattle.std.proofs.Common.{inl, inr, ◌≡◌, ◌<◌, ◌≤◌, ◌+◌, ℕ, Bool, true, false, ◌&&◌, ◌==◌, cond, List, [], ◌∷◌, ◌++◌, refl, sym, ap, ap₂, subst, ◌∙◌, arith}
+use Rattle.std.proofs.Common.{inl, inr, ◌≡◌, ◌<◌, ◌≤◌, ◌+◌, ℕ, Bool, true, false, ◌&&◌, ◌==◌, cond, Option, List, [], ◌∷◌, ◌++◌, refl, sym, ap, ap₂, subst, ◌∙◌, arith}
 use Rattle.std.proofs.lemmas.List.Sums.{sum_by_push}
 use Rattle.std.proofs.lemmas.Bool.{cases_eq, cases_lt, eq-eqb, ne_eqb}
+use Rattle.xs_pixel.specs.Picture.{Pictures}
+use Rattle.xs_raster.specs.declared.tile.Tile.{Tile}
 use Rattle.xs_plan.specs.Record.{PlanRecord}
 use Rattle.xs_plan.specs.Reads.{reads_in}
 use Rattle.xs_plan.specs.declared.job.Reader.{Reader}
 use Rattle.xs_plan.specs.declared.job.Reader.TheVariants.{Port, Root}
 use Rattle.xs_core.specs.declared.answer.Claim.TheVariants as claim
+use Rattle.xs_core.specs.declared.answer.Reading.{Reading}
+use Rattle.xs_core.specs.declared.answer.Reading.TheVariants.{Got}
 use Rattle.xs_core.specs.States.{source_at, reader_at}
 use Rattle.xs_core.specs.Views.{DeskView, Signed, signed, entries, under, Knows, IsMine, IsFresh, MayRead}
-use Rattle.xs_core.specs.Calls.{Adds, Stays, ClaimTells, FinishTells, RetireTells}
+use Rattle.xs_core.specs.Calls.{Adds, Stays, HoldsTile, ClaimTells, FinishTells, ReadingTells, RetireTells}
 use Rattle.xs_life.specs.Alive.{Alive, IsMade}
 
 same : {A : Type 0} (xs : List A) → xs ++ [] ≡ xs
@@ -95,3 +99,11 @@ alive_fresh v fresh = record {
   known = λ k less. absurd (omega (arith, less));
   unserved = λ e past. ap (entries e) fresh.served;
 }
+
+-- a tile that was got holds the value of the read's source
+pub reading_holds :
+    (told : Option Pictures) (p : PlanRecord) (v w : DeskView) (e : ℕ) (r : Reading) (t : Tile) → r ≡ Got t → ReadingTells told p v e r w
+    → HoldsTile told p (source_at p e) t
+reading_holds told p v w e r t got tells =
+    let here : ReadingTells told p v e (Got t) w = subst (λ (x : Reading). ReadingTells told p v e x w) got tells in
+    here.1

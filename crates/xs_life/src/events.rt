@@ -3,7 +3,7 @@
 ghost use Rattle.std.specs.Prelude.{◌≡◌, ◌<◌, ◌↔◌, IsTrue, length};
 ghost use Rattle.xs_core.specs.Events.{IsOf};
 
-use crate::seat::squared;
+use crate::squared;
 use std::process::Abort;
 use std::test::Fail;
 use xs_core::{Core, Event, Phase, ReadState, Stepped, TileState};

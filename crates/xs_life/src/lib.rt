@@ -5,7 +5,9 @@
 #[cfg(test)]
 mod events;
 mod life;
+mod plans;
 #[cfg(test)]
 mod seat;
 
-pub use life::{make, make_first, serve, serve_first};
+pub use life::{Served, make, make_first, put, serve, serve_first, serve_tile};
+pub use plans::squared;

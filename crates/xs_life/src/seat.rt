@@ -1,11 +1,10 @@
 //! A seat that is alone at a small cache, to the end.
 
-ghost use Rattle.std.specs.Prelude.{◌≡◌, ◌<◌, ◌+◌, None, OnOk, pos, length};
+ghost use Rattle.std.specs.Prelude.{◌≡◌, ◌<◌, ◌+◌, None, OnOk, length};
 ghost use Rattle.xs_plan.specs.Reads.{reads_in};
 ghost use Rattle.xs_life.specs.Alive.{Alive};
-ghost use Rattle.xs_rect.specs.Area.{area};
 
-use crate::{make, serve};
+use crate::{make, serve, squared};
 use std::alloc::Global;
 use std::marker::Brand;
 use std::process::Abort;
@@ -13,29 +12,10 @@ use std::test::Fail;
 use xs_base::Memory;
 use xs_core::laws::seats_may_go_on;
 use xs_core::{Claim, Desk, Look};
-use xs_pixel::{Film, Op};
+use xs_pixel::Film;
 use xs_plain_desk::PlainDesk;
-use xs_plan::laws::aliases_reach_what_their_inputs_reach;
-use xs_plan::{Builder, Job, Plan};
+use xs_plan::Plan;
 use xs_rect::Rect;
-
-/// A plan of one row: a drawing multiplied with itself.
-pub(crate) fn squared(alloc: Global, tile: Rect) -> Result<Plan, Memory>
-    requires { tile ≡ area (pos 0) (pos 0) 1 1 }
-{
-    let leaf = Job::Leaf {
-        drawing: 0,
-        dx: 0,
-        dy: 0,
-    };
-    let tiles = vec![in alloc; tile]?;
-    let mut b = Builder::new(alloc, tiles, 1)?;
-    let first = b.add(leaf, tile, None, None)?;
-    let second = b.add(Job::Pair(Op::Mult), tile, Some(first), Some(first))?;
-    aliases_reach_what_their_inputs_reach();
-    b.root(second)?;
-    b.finish(1)
-}
 
 /// Makes the next alias at a seat.
 fn makes<K: Film, D: Desk<K>>(

@@ -2,12 +2,8 @@
 //! any order.
 #![tactic(auto)]
 
-#[cfg(test)]
-mod alone;
 mod checks;
 mod order;
-#[cfg(test)]
-mod plans;
 mod rows;
 mod section;
 mod whole;

@@ -4,7 +4,6 @@ ghost use Rattle.std.specs.Prelude.{◌≡◌, None};
 ghost use Rattle.xs_rect.specs.Tiles.{IsCut};
 
 use crate::plans::{held, late};
-use crate::{Order, all_drawn, gather, gather_alone, lead, render_all, rows_of};
 use std::alloc::Global;
 use std::marker::Brand;
 use std::process::Abort;
@@ -16,6 +15,7 @@ use xs_plain_desk::PlainDesk;
 use xs_plan::Plan;
 use xs_rawfile::frame_bytes;
 use xs_rect::Rect;
+use xs_sections::{Order, all_drawn, gather, gather_alone, lead, render_all, rows_of};
 use xs_worker::laws::the_first_section_is_begun_at_a_fresh_seat;
 
 /// The file of a clear frame.
