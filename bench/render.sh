@@ -1,67 +1,96 @@
 #!/bin/sh
-# Times the renderer on rows of 1920 by 1080 with one and with four columns, and prints the seconds a
-# frame and the most memory that it held. The scenes and their level files are made in a folder that is
-# removed afterwards.
+# Times whole renders with files in memory, each beside a floor: a program that reads the same files and writes frames of
+# the same sizes, and does nothing else. Folders are empty at the start, runs take turns, and medians of five are printed,
+# with the most memory that the renderer held. The scenes and their files are made in a folder that is removed afterwards.
+# The program is proved and built first if need be.
 #
-#     bench/render.sh [ROWS [WORKERS]]
+#     bench/render.sh [WORKERS]
+#     XS_MAIN=PATH bench/render.sh
 set -eu
 top=$(cd "$(dirname "$0")/.." && pwd)
-rows=${1:-24}
-workers=${2:-1}
-work=$(mktemp -d)
+workers=${1:-1}
+work=$(mktemp -d -p "$(test -d /dev/shm && echo /dev/shm || echo /tmp)")
 trap 'rm -rf "$work"' EXIT
+program=$("$top/bench/program.sh" xs_main)
+"${CC:-cc}" -O2 -o "$work/floor" "$top/bench/floor.c"
 cd "$work"
-# The first call proves and builds the program, and refuses the missing words.
-"$top/vazhettin" >/dev/null 2>"$work/build" || [ $? -eq 1 ] || { cat "$work/build"; exit 1; }
-python3 - "$rows" <<'END'
-import json, struct, sys
+python3 - <<'END'
+import json, struct
 
-ROWS, W, H = int(sys.argv[1]), 1920, 1080
+def save(name, w, h, levels, sheet):
+    palette = [[0, 0, 0, 0], [200, 60, 60, 255], [60, 200, 60, 255], [60, 60, 200, 128]]
+    kinds = [dict({"kind": "colour"} if kind == 0 else {"kind": "cm32", "palette": 0}, drawings=files) for kind, files in levels]
+    with open(name + ".json", "w") as file:
+        json.dump({"format": 2, "camera": {"w": w, "h": h}, "palettes": [palette], "levels": kinds, "sheets": [sheet]}, file)
 
 def level(name, kind, x, y, w, h, row):
-    head = b"XRL1" + struct.pack("<BiiII", kind, x, y, w, h)
     with open(name, "wb") as file:
-        file.write(head + b"".join(row(j) for j in range(h)))
+        file.write(b"XRL1" + struct.pack("<BiiII", kind, x, y, w, h) + b"".join(row(j) for j in range(h)))
 
-def sky(j):
-    return bytes((20 + j * 100 // H, 40, 200 - j * 100 // H, 255)) * W
+def sky(w, h):
+    return lambda j: b"".join(bytes((i * 100 // w, 40 + j % 8, 200 - j * 100 // h, 255)) for i in range(w))
 
-def cel(styles):
+def cel(style, side):
     """A blob: clear outside, a line of ink, paint inside."""
     def row(j):
-        half = int((360 ** 2 - min(360, abs(j - 360)) ** 2) ** 0.5)
-        ink, paint, none = (struct.pack("<I", n) for n in (styles << 20, styles << 8 | 255, 255))
+        r = side // 2
+        half = int((r ** 2 - min(r, abs(j - r)) ** 2) ** 0.5)
+        ink, paint, none = (struct.pack("<I", n) for n in (style << 20, style << 8 | 255, 255))
         line = min(3, half)
-        side = none * (360 - half)
-        return side + ink * line + paint * (2 * half - 2 * line) + ink * line + side
+        edge = none * (r - half)
+        return edge + ink * line + paint * (2 * half - 2 * line) + ink * line + edge
     return row
 
-level("sky.xrl", 0, 0, 0, W, H, sky)
-for i in (1, 2, 3):
-    level("cel%d.xrl" % i, 1, 120 + 420 * i - 360, 180, 720, 720, cel(i))
-palette = [[0, 0, 0, 0], [200, 60, 60, 255], [60, 200, 60, 255], [60, 60, 200, 128]]
-levels = [{"kind": "colour", "drawings": ["sky.xrl"]}]
-levels += [{"kind": "cm32", "palette": 0, "drawings": ["cel%d.xrl" % i]} for i in (1, 2, 3)]
-pegs = [{"keys": [{"row": 1, "x": 0, "y": 0, "line": True}, {"row": ROWS + 1, "x": 40 * i, "y": 8 * i}]} for i in range(4)]
-for name, count in (("one.json", 1), ("four.json", 4)):
-    columns = [{"peg": i, "cells": [{"from": 1, "to": ROWS, "level": i, "drawing": 0}]} for i in range(count)]
-    scene = {"format": 2, "camera": {"w": W, "h": H}, "palettes": [palette], "levels": levels,
-             "sheets": [{"pegs": pegs, "columns": columns}]}
-    with open(name, "w") as file:
-        json.dump(scene, file)
+def held(level, rows):
+    return {"cells": [{"from": 1, "to": rows, "level": level, "drawing": 0}]}
+
+# A cut-out scene: a held background, three CM32 columns on twos that cover a third of the frame, and a held matte.
+W, H, ROWS = 1920, 1080, 24
+level("sky.xrl", 0, 0, 0, W, H, sky(W, H))
+level("matte.xrl", 0, 200, 100, 1500, 900, lambda j: b"\xff\xff\xff\xff" * 1500)
+names = [["cel%d.%02d.xrl" % (c, n) for n in range(12)] for c in range(3)]
+for c in range(3):
+    for n in range(12):
+        level(names[c][n], 1, 300 + 420 * c + n, 180 + n, 540, 540, cel(c + 1, 540))
+twos = lambda c: {"cells": [{"from": 2 * n + 1, "to": 2 * n + 2, "level": c + 1, "drawing": n} for n in range(12)]}
+save("cutout", W, H, [(0, ["sky.xrl"])] + [(1, names[c]) for c in range(3)] + [(0, ["matte.xrl"])],
+     {"columns": [held(0, ROWS), twos(0), twos(1), twos(2), held(4, ROWS)],
+      "nodes": [{"op": "in", "first": {"column": 3}, "second": {"column": 4}}],
+      "out": [{"column": 0}, {"column": 1}, {"column": 2}, {"node": 0}]})
+# A held drawing over 96 rows.
+save("hold", W, H, [(0, ["sky.xrl"])], {"columns": [held(0, 96)]})
+# A chain of 256 nodes, and one of eight blurs, over a drawing of 640 by 360, 8 rows.
+level("small.xrl", 0, 0, 0, 640, 360, sky(640, 360))
+ref = lambda n: {"node": n - 1} if n else {"column": 0}
+save("chain", 640, 360, [(0, ["small.xrl"])], {"columns": [held(0, 8)],
+     "nodes": [{"op": "min", "first": ref(n), "second": ref(n)} for n in range(256)], "out": [{"node": 255}]})
+save("blurs", 640, 360, [(0, ["small.xrl"])], {"columns": [held(0, 8)],
+     "nodes": [{"op": "blur", "input": ref(n), "radius": 8} for n in range(8)], "out": [{"node": 7}]})
 END
 cat >time.py <<'END'
-import resource, subprocess, sys, time
+import glob, os, resource, statistics, subprocess, sys, time
 
-label, rows, words = sys.argv[1], int(sys.argv[2]), sys.argv[3:]
-start = time.monotonic()
-status = subprocess.run(words, stdout=subprocess.DEVNULL).returncode
-seconds = time.monotonic() - start
-most = resource.getrusage(resource.RUSAGE_CHILDREN).ru_maxrss / 1024
-if status:
-    print("%-14s ended with status %d" % (label, status))
-else:
-    print("%-14s %8.3f seconds a frame %8.0f MiB" % (label, seconds / rows, most))
+program, workers = sys.argv[1:]
+
+def run(words):
+    for name in glob.glob("out.*.xfr"):
+        os.remove(name)
+    start = time.monotonic()
+    child = subprocess.Popen(words, stdout=subprocess.DEVNULL)
+    _, status, usage = os.wait4(child.pid, 0)
+    if status:
+        sys.exit("%s ended with status %d" % (" ".join(words), status))
+    return 1000 * (time.monotonic() - start), usage.ru_maxrss / 1024
+
+print("%-8s %10s %10s %7s %9s" % ("scene", "ms", "floor ms", "times", "MiB"))
+cels = ["sky.xrl", "matte.xrl"] + sorted(glob.glob("cel*.xrl"))
+for scene, rows, w, h, files in (("cutout", 24, 1920, 1080, cels), ("hold", 96, 1920, 1080, ["sky.xrl"]),
+                                 ("chain", 8, 640, 360, ["small.xrl"]), ("blurs", 8, 640, 360, ["small.xrl"])):
+    render = [program, "render", scene + ".json", "1", str(rows), workers, "out"]
+    floor = ["./floor", "out", "1", str(rows), str(12 + 4 * w * h)] + files
+    times = [(run(render), run(floor)) for _ in range(5)]
+    most = max(it[0][1] for it in times)
+    ours, theirs = (statistics.median(it[i][0] for it in times) for i in (0, 1))
+    print("%-8s %10.1f %10.1f %7.2f %9.1f" % (scene, ours, theirs, ours / theirs, most))
 END
-python3 time.py "one column" "$rows" "$top/vazhettin" render one.json 1 "$rows" "$workers" one
-python3 time.py "four columns" "$rows" "$top/vazhettin" render four.json 1 "$rows" "$workers" four
+python3 time.py "$program" "$workers"

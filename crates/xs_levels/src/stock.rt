@@ -106,6 +106,7 @@ impl<K: Film> Stock<K> {
         ensures place { StopsIn (new_drawings p.now s) result }
         ensures asked { AsksFor (F.told table.now) (new_drawings p.now s) (L.asked lib.old) (L.asked lib.new) result }
         ensures same { L.files lib.new ≡ L.files lib.old }
+        ensures later { L.faults lib.old ≤ L.faults lib.new }
         ensures faults { HadFaults (L.files lib.old) (L.faults lib.old) (L.faults lib.new) result }
         ensures stock { result ≡ Loaded.Done → IsStock p.now (F.told table.now) self.new }
         ensures sections { result ≡ Loaded.Done → (self.new.loaded ≡ s + 1) × (self.new.ended ≡ s) }
@@ -186,6 +187,7 @@ impl<K: Film> Stock<K> {
         ensures asked { AsksOnce (file_of (F.told table.now) d) (L.asked lib.old) (L.asked lib.new) result }
         ensures faults { HadFault (L.files lib.old) (L.faults lib.old) (L.faults lib.new) result }
         ensures same { L.files lib.new ≡ L.files lib.old }
+        ensures later { L.faults lib.old ≤ L.faults lib.new }
     {
         let drawing = fetch(alloc, lib, table, d)?;
         let bytes = bytes_of(&drawing);
@@ -285,6 +287,7 @@ fn ask<L: Library, F: FileTable>(
     ensures asked { AsksOnce (file_of (F.told table.now) d) (L.asked lib.old) (L.asked lib.new) result }
     ensures faults { HadFault (L.files lib.old) (L.faults lib.old) (L.faults lib.new) result }
     ensures same { L.files lib.new ≡ L.files lib.old }
+    ensures later { L.faults lib.old ≤ L.faults lib.new }
 {
     match lib.get(alloc, table.file(d), DRAWING_LIMIT) {
         Fetched::Bytes(bytes) => Ok(List::of(bytes)),
@@ -330,6 +333,7 @@ fn fetch<L: Library, F: FileTable>(
     ensures asked { AsksOnce (file_of (F.told table.now) d) (L.asked lib.old) (L.asked lib.new) result }
     ensures faults { HadFault (L.files lib.old) (L.faults lib.old) (L.faults lib.new) result }
     ensures same { L.files lib.new ≡ L.files lib.old }
+    ensures later { L.faults lib.old ≤ L.faults lib.new }
 {
     let bytes = ask(alloc, lib, table, d)?;
     let drawing = read(bytes, raw_kind(table.kind(d)))?;

@@ -7,7 +7,7 @@ use std::process::ExitCode;
 use std::rt::{Env, Files};
 use std::{env, str};
 use xs_host::{FolderLibrary, FolderShelf, OutNotes};
-use xs_top::{Status, fault_text, run, status_number};
+use xs_top::{Status, fault_text, lane_benches, run, status_number};
 
 /// Why there are no words.
 #[derive(Clone, Copy, Debug)]
@@ -44,7 +44,26 @@ fn carry_out<R: Files + Print + AllocGlobal>(rt: &R, words: &Vec<String>) -> Sta
     let mut library = FolderLibrary::new(rt);
     let mut shelf = FolderShelf::new(rt);
     let mut notes = OutNotes::new(rt);
-    run(rt.alloc(), words, &mut library, &mut shelf, &mut notes)
+    let Ok(mut benches) = lane_benches(rt.alloc()) else {
+        return Status::Memory;
+    };
+    let mut end = None;
+    run(
+        rt.alloc(),
+        words,
+        &mut library,
+        &mut shelf,
+        &mut notes,
+        &mut benches,
+        &mut end,
+    )
+}
+
+/// Raises the bounds of the C library's `malloc`, behind which a block is mapped and unmapped each time: it does so when
+/// such a block is freed for the first time. The block is never touched, so it takes no memory.
+fn raise_bounds<R: AllocGlobal>(rt: &R) {
+    let block: Result<Vec<u8>, _> = Vec::with_capacity(rt.alloc(), 33_550_000);
+    drop(block);
 }
 
 /// Tells a fault on standard error. Where that cannot be written there is nobody to tell.
@@ -65,6 +84,7 @@ fn tell<R: Eprint + AllocGlobal>(rt: &R, status: &Status) {
 }
 
 fn main(rt: HostRuntime) -> ExitCode {
+    raise_bounds(&rt);
     match words(&rt) {
         Ok(words) => {
             let status = carry_out(&rt, &words);

@@ -38,6 +38,7 @@ pub fn render_row<K: Film, D: Desk<K>>(
     ensures frame { frame.new.plan ≡ frame.old.plan }
     ensures area { frame.new.image.area ≡ frame.old.image.area }
     ensures rendered { OnOk result (IsRendered p.now s (i + 1) (D.view desk.new)) }
+    ensures home { OnOk result ((D.view desk.new).home ≡ (D.view desk.old).home) }
     ensures shows { OnOk result (ShowsRow K.pictures p.now (row_at s i) frame.new.image) }
     ensures recorded { OnOk result ((computed : List ℕ) → IsRecorded (D.view desk.old) computed
         → IsRecorded (D.view desk.new) computed) }

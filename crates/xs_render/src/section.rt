@@ -45,6 +45,7 @@ pub fn make_section<K: Film, D: Desk<K>, B: Bench>(
     requires drawn { AreHeld drawings.now (needs p.now s) }
     ensures plan { D.plan desk.new ≡ p.now }
     ensures made { OnOk result (MakesSection p.now s (D.view desk.old) (D.view desk.new) (B.made bench.old) (B.made bench.new)) }
+    ensures home { OnOk result ((D.view desk.new).home ≡ (D.view desk.old).home) }
     ensures part { OnErr result (MakesPart (D.view desk.old) (D.view desk.new) (B.made bench.old) (B.made bench.new)) }
 {
     // what may be relied on in a plan

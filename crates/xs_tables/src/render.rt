@@ -6,7 +6,7 @@ use crate::outside::{Failing, Outside};
 use std::alloc::Global;
 use std::{io, str};
 use xs_outside::{Library, MemLibrary, MemNotes, MemShelf, QuietLibrary};
-use xs_top::{Status, fault_text, run, status_number};
+use xs_top::{Status, fault_text, lane_benches, run, status_number};
 
 /// The words of a command line.
 fn words_of(alloc: Global, words: &str) -> io::Result<Vec<String>> {
@@ -41,7 +41,19 @@ fn run_with<L: Library + Drop>(
     let words = words_of(alloc, words)?;
     let mut shelf = MemShelf::new(alloc, vec![in alloc; failing.put]?);
     let mut notes = MemNotes::new(alloc, vec![in alloc; failing.note]?);
-    let status = run(alloc, &words, &mut library, &mut shelf, &mut notes);
+    let Ok(mut benches) = lane_benches(alloc) else {
+        return Err(io::Error::from(io::ErrorKind::OutOfMemory));
+    };
+    let mut end = None;
+    let status = run(
+        alloc,
+        &words,
+        &mut library,
+        &mut shelf,
+        &mut notes,
+        &mut benches,
+        &mut end,
+    );
     Ok(Ended {
         status,
         library,

@@ -1,9 +1,16 @@
 //! Renders of two sections over a library in memory.
 
+ghost use Rattle.std.specs.Prelude.{◌≡◌, [], All, IfOk, None, length};
+ghost use Rattle.xs_base.specs.declared.limits.TheConstants.{MOST_WORKERS};
+
 use std::alloc::Global;
 use std::test::Fail;
+use xs_base::Memory;
+use xs_base::limits::MOST_WORKERS;
+use xs_bench::{Bench, LaneBench, PlainBench, ShortBench};
 use xs_outside::{MemLibrary, MemNotes, MemShelf, Object};
-use xs_top::{run, status_number};
+use xs_top::{lane_benches, run, status_number};
+use xs_word_desk::Closed;
 
 /// A drawing on rows 8 and 9, before a camera of one pixel.
 const SCENE: &str =
@@ -12,9 +19,18 @@ const SCENE: &str =
 /// A drawing of one pixel at the point (0, 0).
 const PIXEL: &[u8] = b"XRL1\0\0\0\0\0\0\0\0\0\x01\0\0\0\x01\0\0\0\x0a\x14\x1e\xff";
 
-/// The status of a render of rows 8 to 16 over a library whose calls of these numbers fail, how many frames
-/// stand on the shelf, and the notes.
-fn rendered(alloc: Global, fails: &[u64]) -> Result<(u8, usize, MemNotes), Fail> {
+/// The status of a render of rows 8 to 16 by benches over a library whose calls of these numbers fail, and what stands
+/// on the shelf and in the notes.
+fn rendered_by<B: Bench>(
+    alloc: Global,
+    fails: &[u64],
+    benches: &mut Vec<B>,
+    end: &mut Option<Closed>,
+) -> Result<(u8, MemShelf, MemNotes), Fail>
+    requires benches { length benches.old.items ≡ MOST_WORKERS }
+    requires unused { All (λ bench. B.made bench ≡ []) benches.old.items }
+    requires open { end.old ≡ None }
+{
     let mut words = Vec::new(alloc);
     for word in ["render", "one.json", "8", "16", "1", "f"] {
         words.push(String::from_str(alloc, word)?)?;
@@ -25,24 +41,119 @@ fn rendered(alloc: Global, fails: &[u64]) -> Result<(u8, usize, MemNotes), Fail>
     let mut library = MemLibrary::new(alloc, files, Vec::from_slice(alloc, fails)?);
     let mut shelf = MemShelf::new(alloc, Vec::new(alloc));
     let mut notes = MemNotes::new(alloc, Vec::new(alloc));
-    let status = run(alloc, &words, &mut library, &mut shelf, &mut notes);
-    Ok((status_number(&status), shelf.objects().len(), notes))
+    let status = run(
+        alloc,
+        &words,
+        &mut library,
+        &mut shelf,
+        &mut notes,
+        benches,
+        end,
+    );
+    Ok((status_number(&status), shelf, notes))
+}
+
+/// The same by benches of lanes.
+fn rendered(alloc: Global, fails: &[u64]) -> Result<(u8, MemShelf, MemNotes), Fail> {
+    let mut benches = lane_benches(alloc)?;
+    rendered_by(alloc, fails, &mut benches, &mut None)
+}
+
+/// Benches that compute point by point.
+fn plain_benches(alloc: Global) -> Result<Vec<PlainBench>, Memory>
+    ensures count { IfOk result (λ benches. length benches.items ≡ MOST_WORKERS) }
+    ensures unused { IfOk result (λ benches. All (λ bench. ⟦<PlainBench as Bench>⟧.made bench ≡ []) benches.items) }
+{
+    let mut benches = Vec::with_capacity(alloc, MOST_WORKERS as usize)?;
+    for i in 0..MOST_WORKERS {
+        benches.push_reserved(PlainBench::new(alloc));
+    }
+    Ok(benches)
+}
+
+/// Benches that are short of memory at their call with this number; calls count from 1.
+fn short_benches(alloc: Global, at: u64) -> Result<Vec<ShortBench<LaneBench>>, Memory>
+    ensures count { IfOk result (λ benches. length benches.items ≡ MOST_WORKERS) }
+    ensures unused { IfOk result (λ benches. All (λ bench. ⟦<ShortBench<LaneBench> as Bench>⟧.made bench ≡ []) benches.items) }
+{
+    let mut benches = Vec::with_capacity(alloc, MOST_WORKERS as usize)?;
+    for i in 0..MOST_WORKERS {
+        benches.push_reserved(ShortBench::new(LaneBench::new(alloc), at));
+    }
+    Ok(benches)
+}
+
+/// How many aliases a bench computed; none where there is no such bench.
+fn computed<B: Bench>(benches: &Vec<B>, i: usize) -> Option<usize> {
+    let bench = benches.as_slice().get(i)?;
+    Some(bench.computed().len())
 }
 
 #[test]
 fn rows_of_two_sections_are_rendered(rt: HostRuntime) -> Result<(), Fail> {
-    let (status, frames, notes) = rendered(rt.alloc(), &[])?;
+    let (status, shelf, notes) = rendered(rt.alloc(), &[])?;
     assert_eq!(rt; status, 0);
-    assert_eq!(rt; frames, 9);
-    assert_eq!(rt; notes.bytes(), b"rendered 9 rows\n".as_slice());
+    assert_eq!(rt; shelf.objects().len(), 9);
+    assert_eq!(rt;
+        notes.bytes(),
+        b"rendered 9 rows, 2 aliases, 9 reads\n".as_slice()
+    );
     Ok(())
 }
 
 #[test]
 fn a_failing_library_leaves_no_frame(rt: HostRuntime) -> Result<(), Fail> {
-    let (status, frames, notes) = rendered(rt.alloc(), &[2])?;
+    let (status, shelf, notes) = rendered(rt.alloc(), &[2])?;
     assert_eq!(rt; status, 4);
-    assert_eq!(rt; frames, 0);
+    assert_eq!(rt; shelf.objects().len(), 0);
     assert_eq!(rt; notes.bytes().len(), 0);
+    Ok(())
+}
+
+#[test]
+fn the_first_bench_computes_each_alias_and_the_cache_is_left_empty(
+    rt: HostRuntime,
+) -> Result<(), Fail> {
+    let mut benches = lane_benches(rt.alloc())?;
+    let mut end = None;
+    let (status, _shelf, _notes) = rendered_by(rt.alloc(), &[], &mut benches, &mut end)?;
+    assert_eq!(rt; status, 0);
+    assert_eq!(rt; computed(&benches, 0), Some(2));
+    assert_eq!(rt; computed(&benches, 1), Some(0));
+    let closed = end.ok_or("a closing record")?;
+    assert_eq!(rt; closed.tiles(), 0);
+    Ok(())
+}
+
+#[test]
+fn plain_benches_render_the_same_frames(rt: HostRuntime) -> Result<(), Fail> {
+    let (_status, fast, _notes) = rendered(rt.alloc(), &[])?;
+    let mut benches = plain_benches(rt.alloc())?;
+    let (status, plain, _notes) = rendered_by(rt.alloc(), &[], &mut benches, &mut None)?;
+    assert_eq!(rt; status, 0);
+    assert_eq!(rt; plain.objects().len(), 9);
+    assert_eq!(rt; fast.objects().len(), 9);
+    for i in 0..9 {
+        let (Some(one), Some(other)) = (fast.objects().get(i), plain.objects().get(i)) else {
+            return Err(Fail::from("nine frames"));
+        };
+        assert!(rt; one.bytes.items() == other.bytes.items());
+    }
+    Ok(())
+}
+
+/// What a render by short benches leaves: its status, how many frames, and whether there is a closing record.
+fn left_by_short_benches(alloc: Global, at: u64) -> Result<(u8, usize, bool), Fail> {
+    let mut benches = short_benches(alloc, at)?;
+    let mut end = None;
+    let (status, shelf, _notes) = rendered_by(alloc, &[], &mut benches, &mut end)?;
+    Ok((status, shelf.objects().len(), end.is_some()))
+}
+
+#[test]
+fn a_bench_that_is_short_ends_the_render_before_its_section(rt: HostRuntime) -> Result<(), Fail> {
+    assert_eq!(rt; left_by_short_benches(rt.alloc(), 1)?, (6, 0, false));
+    assert_eq!(rt; left_by_short_benches(rt.alloc(), 2)?, (6, 0, false));
+    assert_eq!(rt; left_by_short_benches(rt.alloc(), 3)?, (0, 9, true));
     Ok(())
 }

@@ -9,7 +9,7 @@ use Rattle.xs_alias.specs.Lines.{with_ends}
 use Rattle.xs_top.specs.Writes.{with_bytes, WroteFront, WroteWhole}
 use Rattle.xs_top.specs.Trace.{Ask, Place, Outcome, ended, after, Contents, grown}
 use Rattle.xs_top.specs.Runs.{Did, StoppedAsking, StoppedPlacing}
-use Rattle.xs_top.specs.Files.{Files}
+use Rattle.xs_levels.specs.Films.{Files}
 use Rattle.xs_top.specs.Outcome.{found, asking, placing}
 use Rattle.xs_top.proofs.Parts.{more-nothing, did_nothing}
 

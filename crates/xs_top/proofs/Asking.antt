@@ -1,5 +1,5 @@
 -- What stands on the shelf where a file is asked for.
-use Rattle.std.proofs.Common.{◌≡◌, ℕ, zero, suc, ◌+◌, ◌-◌, ◌<◌, ◌≤◌, ◌==◌, ◌||◌, true, false, List, [], ◌∷◌, ◌++◌, length, map, nat_le, if◌then◌else◌, Option, Some, None, refl, sym, ap, ◌∙◌, subst, append_assoc, arith}
+use Rattle.std.proofs.Common.{◌≡◌, ℕ, zero, suc, ◌+◌, ◌-◌, ◌<◌, ◌≤◌, ◌==◌, ◌||◌, true, false, List, [], ◌∷◌, ◌++◌, map, nat_le, if◌then◌else◌, Option, Some, None, refl, sym, ap, ◌∙◌, subst, append_assoc, arith}
 use Rattle.std.specs.List.{range_with_len}
 use Rattle.std.proofs.lemmas.List.{map-append, append-nil}
 use Rattle.xs_outside.specs.declared.object.Object.{Object}
@@ -10,9 +10,15 @@ use Rattle.xs_check.specs.Passes.{first_fault}
 use Rattle.xs_scene.specs.Records.{SceneRecord}
 use Rattle.xs_top.specs.declared.status.Status.{Status}
 use Rattle.xs_top.specs.Trace.{Event, Ask, Place, Line, puts, Outcome, ended, after}
-use Rattle.xs_top.specs.Files.{Files}
+use Rattle.xs_levels.specs.Films.{Files}
 use Rattle.xs_top.specs.Frames.{frame_at}
-use Rattle.xs_top.specs.Levels.{file_of, pictures_of}
+use Rattle.xs_top.specs.Drawings.{file_of, pictures_of, fault_of, bytes_of}
+use Rattle.xs_top.specs.Demand.{limit_in, plan_in}
+use Rattle.xs_top.specs.declared.limits.TheConstants.{MOST_SECTION_BYTES}
+use Rattle.xs_top.specs.declared.status.Status.TheVariants as answers
+use Rattle.xs_plan.specs.Record.{PlanRecord}
+use Rattle.xs_demand.specs.Limits.{Limit}
+use Rattle.xs_dryrun.specs.declared.limits.What.TheVariants as what
 use Rattle.xs_base.specs.Sections.{section_rows, sections_in, rows_before}
 use Rattle.xs_top.specs.Finished.{Says, frames_of}
 use Rattle.xs_top.specs.Refused.{IsAskedBehind}
@@ -23,7 +29,7 @@ use Rattle.xs_top.proofs.Listings.{fresh_new}
 use Rattle.xs_top.proofs.Scenes.{scene_asked}
 use Rattle.std.proofs.Math.Bool.{or-true}
 use Rattle.std.proofs.lemmas.Bool.Decides.{nat_tests}
-use Rattle.xs_top.specs.Outcome.{found, asking, placing, noting, if_faultless, accepted, loading_drawing, loading, placing_rows, rendering_sections, closing, rendering_scene, rendering}
+use Rattle.xs_top.specs.Outcome.{asking, placing, noting, if_faultless, within_limits, counted, accepted, loading, placing_rows, rendering_sections, closing, rendering_rows, rendering_scene, rendering}
 use Rattle.xs_top.proofs.Drawn.{loading_none, loading_first}
 use Rattle.xs_top.proofs.Placed.{placing_none, placing_first}
 use Rattle.xs_top.proofs.Sections.{section_is, sections_first, sections_none, sections_are, rows_before_more}
@@ -82,31 +88,30 @@ module _ (Q : List ℕ → List Object → Type 0) where
 
   -- ---- drawings
 
-  at_found : (file : Option (List ℕ)) (limit : ℕ) (absent too_long : Status) (next : List ℕ → Outcome) → ((bytes : List ℕ) → AtAsks Q (next bytes))
-      → AtAsks Q (found file limit absent too_long next)
-  at_found None limit absent too_long next a = at_ended absent
-  at_found (Some bytes) limit absent too_long next a =
-      elim (nat_le (length bytes) limit) as (λ t. AtAsks Q (if t then next bytes else ended too_long)) [
-        | true ↦ a bytes
-        | false ↦ at_ended too_long
+  at_counted : (bytes : ℕ) (next : Outcome) → AtAsks Q next → AtAsks Q (counted bytes next)
+  at_counted bytes next a =
+      elim (nat_le bytes MOST_SECTION_BYTES) as (λ t. AtAsks Q (if t then next else ended (answers.Limit what.SectionBytes MOST_SECTION_BYTES))) [
+        | true ↦ a
+        | false ↦ at_ended _
       ]
 
-  at_accepted : (d : ℕ) (fault : Option LevelCode) (next : Outcome) → AtAsks Q next → AtAsks Q (accepted d fault next)
-  at_accepted d None next a = a
-  at_accepted d (Some code) next a = at_ended _
+  at_accepted : (d : ℕ) (fault : Option LevelCode) (bytes : ℕ) (next : Outcome) → AtAsks Q next → AtAsks Q (accepted d fault bytes next)
+  at_accepted d None bytes next a = at_counted bytes next a
+  at_accepted d (Some code) bytes next a = at_ended _
 
-  at_drawing : (files : Files) (s : SceneRecord) (d : ℕ) (next : Outcome) → Q (file_of s d) [] → AtAsks Q next → AtAsks Q (loading_drawing files s d next)
-  unfolding loading_drawing asking
-  at_drawing files s d next none a =
-      at_ask (file_of s d) _ none (at_found (files (file_of s d)) _ _ _ _ (λ bytes. at_accepted d _ next a))
-
-  at_loading : (files : Files) (s : SceneRecord) (ds : List ℕ) (next : Outcome) → ((d : ℕ) → is_listed ds d ≡ true → Q (file_of s d) [])
-      → AtAsks Q next → AtAsks Q (loading files s ds next)
-  at_loading files s [] next none a = rw (loading_none files s next) a
-  at_loading files s (d ∷ ds) next none a =
+  at_loading : (files : Files) (s : SceneRecord) (ds : List ℕ) (over : ℕ) (next : Outcome) → ((d : ℕ) → is_listed ds d ≡ true → Q (file_of s d) [])
+      → AtAsks Q next → AtAsks Q (loading files s over ds next)
+  at_loading files s [] over next none a = rw (loading_none files s over next) a
+  at_loading files s (d ∷ ds) over next none a =
       let here : is_listed (d ∷ ds) d ≡ true = grind (arith, nat_tests) in
-      rw (loading_first files s d ds next)
-      (at_drawing files s d _ (none d here) (at_loading files s ds next (λ e listed. none e (ap (λ t. (d == e) || t) listed ∙ or-true _)) a))
+      rw (loading_first files s over d ds next)
+      (at_ask (file_of s d) _ (none d here)
+      (at_accepted d (fault_of files s d) _ _
+      (at_loading files s ds (over + bytes_of files s d) next (λ e listed. none e (ap (λ t. (d == e) || t) listed ∙ or-true _)) a)))
+
+  at_within : (limit : Option Limit) (next : Outcome) → AtAsks Q next → AtAsks Q (within_limits limit next)
+  at_within None next a = a
+  at_within (Some limit) next a = at_ended _
 
   at_checked : (fault : Option SceneFault) (next : Outcome) → AtAsks Q next → AtAsks Q (if_faultless fault next)
   at_checked None next a = a
@@ -142,29 +147,32 @@ module _ (files : Files) (s : SceneRecord) (base : List ℕ) (from to : ℕ) whe
       ∙ append_assoc first (frames_of files s base (section_rows from to i)) objects in
       rw (← same) behind
 
-  at_sections : (n i : ℕ) (next : Outcome) → i + n ≤ sections_in from to → ((Q : List ℕ → List Object → Type 0) → AtAsks Q next)
-      → AtAsks (Behind i) (rendering_sections files s base (rows_before from to i) (map (section_rows from to) (range_with_len i n)) next)
-  at_sections zero i next within a = rw (sections_none files s base (rows_before from to i) next) (a (Behind i))
-  at_sections (suc n) i next within a =
+  at_sections : (p : PlanRecord) (n i : ℕ) (next : Outcome) → i + n ≤ sections_in from to → ((Q : List ℕ → List Object → Type 0) → AtAsks Q next)
+      → AtAsks (Behind i) (rendering_sections files s base p i (rows_before from to i) (map (section_rows from to) (range_with_len i n)) next)
+  at_sections p zero i next within a = rw (sections_none files s base p i (rows_before from to i) next) (a (Behind i))
+  at_sections p (suc n) i next within a =
       let rows = section_rows from to i in
       let later = map (section_rows from to) (range_with_len (i + 1) n) in
-      let rest = at_sections n (i + 1) next (omega arith) a in
+      let rest = at_sections p n (i + 1) next (omega arith) a in
       rw (
-        sections_first files s base (rows_before from to i) rows later next,
-        section_is files s base (rows_before from to i) rows
-            (rendering_sections files s base (rows_before from to i ++ rows) later next),
+        sections_first files s base p i (rows_before from to i) rows later next,
+        section_is files s base p i (rows_before from to i) rows
+            (rendering_sections files s base p (i + 1) (rows_before from to i ++ rows) later next),
         ← rows_before_more from to i,
       )
-      (at_loading (Behind i) files s _ _ (λ d listed. asked_now i d (omega arith) listed)
+      (at_loading (Behind i) files s _ _ _ (λ d listed. asked_now i d (omega arith) listed)
       (at_rows s (pictures_of files s) base rows _ (Behind i)
       (at_weaker (Behind (i + 1)) (λ asked objects. Behind i asked (frames_of files s base rows ++ objects)) _ (asked_later i) rest)))
 
-  at_closing : (rows : ℕ) (Q : List ℕ → List Object → Type 0) → AtAsks Q (closing rows)
+  at_closing : (p : PlanRecord) (Q : List ℕ → List Object → Type 0) → AtAsks Q (closing p)
   unfolding closing noting
-  at_closing rows Q = at_line Q _ _ (at_ended Q _)
+  at_closing p Q = at_line Q _ _ (at_ended Q _)
 
   at_scene : AtAsks (Behind 0) (rendering_scene files from to base s)
-  at_scene = rw (sections_are from to) (at_sections (sections_in from to) 0 (closing (to + 1 - from)) (omega arith) (at_closing (to + 1 - from)))
+  at_scene =
+      let p = plan_in s from to in
+      at_within (Behind 0) (limit_in s from to) (rendering_rows files s from to base p)
+      (rw (sections_are from to) (at_sections p (sections_in from to) 0 (closing p) (omega arith) (at_closing p)))
 
   pub asked_behind_sections : (name : List ℕ) → Says files name s → (done rest : List Event) (asked : List ℕ)
       → (rendering files name from to base).work ≡ Ask name ∷ (done ++ Ask asked ∷ rest) → IsAskedBehind files s base from to asked (puts done)

@@ -13,7 +13,7 @@ use Rattle.xs_top.specs.Seen.{Seen}
 use Rattle.xs_top.specs.Leaves.{Leaves, QuietUnless}
 use Rattle.xs_top.specs.Runs.{Stopped, Undone}
 use Rattle.xs_top.specs.Texts.{words_status}
-use Rattle.xs_top.specs.Files.{Files}
+use Rattle.xs_levels.specs.Films.{Files}
 use Rattle.xs_top.specs.Outcome.{commanding, outcome}
 use Rattle.xs_top.proofs.Parts.{did_nothing, stopped_whole, stopped_here, leaves_nothing}
 

@@ -1,5 +1,5 @@
 -- What the demand of a range of rows has done, without its steps.
-use Rattle.std.proofs.Common.{◌≡◌, ℕ, ◌+◌, ◌-◌, false, List, [], ◌∷◌, ◌++◌, length, take, Option, Some, None, Result, Ok, Err, inl, inr, refl, sym, ap, ◌∙◌, subst}
+use Rattle.std.proofs.Common.{◌≡◌, ℕ, ◌+◌, ◌-◌, false, List, [], ◌∷◌, ◌++◌, length, take, Option, Some, None, Result, Ok, inl, inr, refl, sym, ap, ◌∙◌, subst}
 use Rattle.std.specs.Option.{option_map}
 use Rattle.std.proofs.Math.Seq.{take-nil}
 use Rattle.std.proofs.lemmas.List.{append-nil, append_cancel_left}
@@ -20,19 +20,26 @@ use Rattle.xs_words.specs.declared.command.Command.TheVariants as command
 use Rattle.xs_words.specs.Grammar.{reading_of}
 use Rattle.xs_top.specs.declared.status.Status.{Status}
 use Rattle.xs_top.specs.declared.status.Status.TheVariants as answers
-use Rattle.xs_top.specs.Trace.{Ask, Event, asks, puts, lines, Outcome, ended, after, Contents, grown}
+use Rattle.xs_top.specs.Trace.{Ask, puts, lines, Outcome, ended, after, Contents, grown}
 use Rattle.xs_top.specs.Seen.{Seen}
 use Rattle.xs_top.specs.Causes.{answer_of, is_of_words}
 use Rattle.xs_top.specs.Runs.{Did, Runs, Stopped, GainedFront, is_broken, IsRun}
 use Rattle.xs_top.specs.Leaves.{Leaves}
 use Rattle.xs_top.specs.Texts.{plan_status}
 use Rattle.xs_top.specs.Writes.{Writes}
-use Rattle.xs_top.specs.Files.{Files}
+use Rattle.xs_levels.specs.Films.{Files}
 use Rattle.xs_top.specs.Finished.{Says}
 use Rattle.xs_top.specs.Demand.{demand_lines, tiles_of, roots_in, limit_in, plan_in}
 use Rattle.xs_top.specs.Rendered.{IsDemanded, PassesLimit, GainedLines}
 use Rattle.xs_top.specs.Ran.{RanDemand}
-use Rattle.xs_top.specs.Outcome.{if_faultless, noting_lines, within_limits, demanding_scene, demanding, commanding, outcome}
+use Rattle.xs_top.specs.Outcome.{if_faultless, noting_lines, within_limits, closing, rendering_section, rendering_sections, rendering_rows, rendering_scene, demanding_scene, demanding, commanding, outcome}
+use Rattle.xs_render.specs.Computed.{HasEachOnce}
+use Rattle.xs_word_desk.specs.declared.closing.Closed.{Closed}
+use Rattle.xs_top.specs.Once.{ComputedOnce, IsClosedOf}
+use Rattle.xs_top.specs.Drawings.{bytes_held_over}
+use Rattle.xs_plan.specs.Needed.{last_section_of}
+use Rattle.xs_pixel.specs.Channels.{Channels}
+use Rattle.xs_base.specs.Sections.{sections_of}
 use Rattle.xs_top.proofs.Parts.{more-nothing, lines-append, did_nothing, did_to, stopped_whole, stopped_here, leaves_nothing}
 use Rattle.xs_top.proofs.Writing.{events, noting_are, asks_none, lines_are, puts_noting, writes_run, writes_undone}
 use Rattle.xs_top.proofs.Commands.{command_obeyed}
@@ -88,14 +95,14 @@ noting_lines_tell ls =
 
 -- ---- where there is no plan
 
-pub plan_stopped : (s : SceneRecord) (from to : ℕ) (seen : Seen) (fault : PlanFault)
+pub plan_stopped : (s : SceneRecord) (from to : ℕ) (next : Outcome) (seen : Seen) (fault : PlanFault)
     → ((what : What) (limit : ℕ) → fault ≡ plan_fault.Limit what limit
     → (option_map what_of (limit_in s from to) ≡ Some what) × (limit ≡ greatest_of what))
-    → Stopped (demanding_scene from to s) seen seen (plan_status fault)
-plan_stopped s from to seen (plan_fault.Limit what limit) limited =
+    → Stopped (within_limits (limit_in s from to) next) seen seen (plan_status fault)
+plan_stopped s from to next seen (plan_fault.Limit what limit) limited =
     let told = limited what limit refl in
-    stopped_whole _ seen seen _ refl (did_to _ _ _ _ _ (did_nothing _ _) (limit_told (limit_in s from to) what limit _ told.0 told.1))
-plan_stopped s from to seen plan_fault.Memory limited = stopped_here _ seen
+    stopped_whole _ seen seen _ refl (did_to _ _ _ _ _ (did_nothing _ _) (limit_told (limit_in s from to) what limit next told.0 told.1))
+plan_stopped s from to next seen plan_fault.Memory limited = stopped_here _ seen
 
 pub plan_leaves : (seen : Seen) (fault : PlanFault) → Leaves seen seen (plan_status fault)
 plan_leaves seen (plan_fault.Limit what limit) = leaves_nothing seen _ refl refl
@@ -104,6 +111,46 @@ plan_leaves seen plan_fault.Memory = leaves_nothing seen _ refl refl
 pub plan_inside : (fault : PlanFault) → is_of_words (plan_status fault) ≡ false
 plan_inside (plan_fault.Limit what limit) = refl
 plan_inside plan_fault.Memory = refl
+
+-- ---- a render of a plan that shows the rows
+
+module _ (files : Files) (s : SceneRecord) (base : List ℕ) (p : PlanRecord) (tints : List (List Channels)) where
+  sections_apart : (sections : List (List ℕ)) (section : ℕ) (earlier : List ℕ) (next : Outcome)
+      → rendering_sections files s base p section earlier sections next
+      ≡ rendering_sections files s base (record p { tints = tints }) section earlier sections next
+  unfolding rendering_sections rendering_section bytes_held_over last_section_of
+  sections_apart [] section earlier next = refl
+  sections_apart (rows ∷ sections) section earlier next =
+      ap (rendering_section files s base p section earlier rows) (sections_apart sections (section + 1) (earlier ++ rows) next)
+
+-- it goes as the render of the plan of the rows
+pub rendering_shown : PlanLaw → (files : Files) (s : SceneRecord) (base : List ℕ) (from to : ℕ) (p : PlanRecord) → ShowsRoots (tiles_of s) (roots_in s from to) p
+    → p.drawings ≡ length (files_of s.levels) → limit_in s from to ≡ None
+    → rendering_scene files from to base s ≡ rendering_sections files s base p 0 [] (sections_of from to) (closing p)
+unfolding closing
+rendering_shown law files s base from to p shows drawings none =
+    let same = law (tiles_of s) (roots_in s from to) p shows ∙ ap (plan_of (tiles_of s) (roots_in s from to)) drawings in
+    none_told (limit_in s from to) _ none
+    ∙ (ap (rendering_rows files s from to base) (sym same) ∙ sym (sections_apart files s base p (tints_shown p) (sections_of from to) 0 [] (closing p)))
+
+-- each alias of the demand was computed once, where each alias of the plan was
+pub computed_once : PlanLaw → (files : Option Files) (name : List ℕ) (from to : ℕ) (s : SceneRecord) (p : PlanRecord) (computed : List ℕ) (c : Closed)
+    → ShowsRoots (tiles_of s) (roots_in s from to) p → p.drawings ≡ length (files_of s.levels) → limit_in s from to ≡ None
+    → ((told : Files) → files ≡ Some told → Says told name s) → first_fault s ≡ None → HasEachOnce p computed → IsClosedOf p c
+    → ComputedOnce files name from to computed c
+computed_once law files name from to s p computed c shows drawings none says faultless each closed =
+    let same = law (tiles_of s) (roots_in s from to) p shows ∙ ap (plan_of (tiles_of s) (roots_in s from to)) drawings in
+    let once : HasEachOnce (record p { tints = tints_shown p }) computed = record { each = each.each; others = each.others } in
+    record {
+      scene = s;
+      says = says;
+      faultless = faultless;
+      within = none;
+      each = subst (λ (q : PlanRecord). HasEachOnce q computed) same once;
+      plan = p;
+      shown = same;
+      closed = closed;
+    }
 
 -- ---- where there is one
 

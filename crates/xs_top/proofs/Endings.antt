@@ -9,23 +9,27 @@ use Rattle.xs_fault.specs.declared.code.SceneCode.{SceneCode}
 use Rattle.xs_fault.specs.declared.code.SceneCode.TheVariants as scene_code
 use Rattle.xs_json.specs.Parsing.{Parsed}
 use Rattle.xs_rawfile.specs.declared.fault.LevelCode.{LevelCode}
-use Rattle.xs_rawfile.specs.declared.fault.LevelCode.TheVariants as level_code
-use Rattle.xs_rawfile.specs.Level.{first_fault as file_fault}
 use Rattle.xs_check.specs.Codes.{is_of_checking}
 use Rattle.xs_check.specs.Passes.{first_fault}
 use Rattle.xs_scene.specs.Records.{SceneRecord}
 use Rattle.xs_scene_json.specs.Faults.{is_text_code}
 use Rattle.xs_scene_json.specs.SceneText.{scene_of}
-use Rattle.xs_base.specs.declared.limits.TheConstants.{SCENE_LIMIT, DRAWING_LIMIT}
+use Rattle.xs_base.specs.declared.limits.TheConstants.{SCENE_LIMIT}
 use Rattle.xs_base.specs.Sections.{sections_of}
 use Rattle.xs_top.specs.declared.status.Status.{Status}
 use Rattle.xs_top.specs.declared.status.Status.TheVariants as answers
 use Rattle.xs_top.specs.Trace.{Outcome, ended, Ask, Place, after}
-use Rattle.xs_top.specs.Files.{Files}
-use Rattle.xs_top.specs.Levels.{file_of, kind_of, raw_kind_of, pictures_of}
+use Rattle.xs_levels.specs.Films.{Files}
+use Rattle.xs_top.specs.Drawings.{file_of, pictures_of, fault_of, bytes_of}
+use Rattle.xs_top.specs.Demand.{limit_in, plan_in}
+use Rattle.xs_top.specs.declared.limits.TheConstants.{MOST_SECTION_BYTES}
+use Rattle.xs_plan.specs.Record.{PlanRecord}
+use Rattle.xs_demand.specs.Limits.{Limit}
+use Rattle.xs_dryrun.specs.declared.limits.What.{What}
+use Rattle.xs_dryrun.specs.declared.limits.What.TheVariants as what
 use Rattle.xs_top.specs.Causes.{is_lost_scene}
 use Rattle.xs_top.specs.Refused.{IsTooLong}
-use Rattle.xs_top.specs.Outcome.{no_scene, found, asking, placing, noting, if_faultless, decoded, accepted, loading_scene, loading_drawing, loading, placing_rows, rendering_sections, closing, rendering_scene, showing_scene}
+use Rattle.xs_top.specs.Outcome.{no_scene, found, asking, placing, noting, if_faultless, decoded, within_limits, counted, accepted, loading_scene, loading, placing_rows, rendering_sections, closing, rendering_rows, rendering_scene, showing_scene}
 use Rattle.xs_top.proofs.Answered.{found_absent, found_too_long}
 use Rattle.xs_top.proofs.Scenes.{scene_asked, CheckingCodes, TextCodes, not_lost}
 use Rattle.xs_top.proofs.Drawn.{loading_none, loading_first}
@@ -36,13 +40,25 @@ use Rattle.xs_top.proofs.Placed.{placing_none, placing_first}
 
 pub record Stays (P : Outcome → Type 0) : Type 0 where
   pub told : (d : ℕ) (code : LevelCode) → P (ended (answers.Level d code))
+  pub limited : (w : What) (limit : ℕ) → P (ended (answers.Limit w limit))
   pub asked : (name : List ℕ) (next : Outcome) → P next → P (after (Ask name ∷ []) next)
   pub placed : (object : Object) (next : Outcome) → P next → P (after (Place object ∷ []) next)
 
 module _ (P : Outcome → Type 0) (stays : Stays P) where
-  accepted_in : (d : ℕ) (fault : Option LevelCode) (next : Outcome) → P next → P (accepted d fault next)
-  accepted_in d None next p = p
-  accepted_in d (Some code) next p = stays.told d code
+  counted_in : (bytes : ℕ) (next : Outcome) → P next → P (counted bytes next)
+  counted_in bytes next p =
+      elim (nat_le bytes MOST_SECTION_BYTES) as (λ t. P (if t then next else ended (answers.Limit what.SectionBytes MOST_SECTION_BYTES))) [
+        | true ↦ p
+        | false ↦ stays.limited what.SectionBytes MOST_SECTION_BYTES
+      ]
+
+  accepted_in : (d : ℕ) (fault : Option LevelCode) (bytes : ℕ) (next : Outcome) → P next → P (accepted d fault bytes next)
+  accepted_in d None bytes next p = counted_in bytes next p
+  accepted_in d (Some code) bytes next p = stays.told d code
+
+  within_in : (limit : Option Limit) (next : Outcome) → P next → P (within_limits limit next)
+  within_in None next p = p
+  within_in (Some limit) next p = stays.limited _ _
 
   found_in : (file : Option (List ℕ)) (limit : ℕ) (absent too_long : Status) (next : List ℕ → Outcome) → P (ended absent) → P (ended too_long)
       → ((bytes : List ℕ) → P (next bytes)) → P (found file limit absent too_long next)
@@ -53,17 +69,11 @@ module _ (P : Outcome → Type 0) (stays : Stays P) where
         | false ↦ long
       ]
 
-  drawing_in : (files : Files) (s : SceneRecord) (d : ℕ) (next : Outcome) → P next → P (loading_drawing files s d next)
-  unfolding loading_drawing asking
-  drawing_in files s d next p =
-      stays.asked (file_of s d) _
-      (found_in (files (file_of s d)) DRAWING_LIMIT (answers.Level d level_code.Absent) (answers.Level d level_code.TooLong)
-      (λ bytes. accepted d (file_fault (raw_kind_of (kind_of s d)) bytes) next)
-      (stays.told d level_code.Absent) (stays.told d level_code.TooLong) (λ bytes. accepted_in d (file_fault (raw_kind_of (kind_of s d)) bytes) next p))
-
-  loading_in : (files : Files) (s : SceneRecord) (ds : List ℕ) (next : Outcome) → P next → P (loading files s ds next)
-  loading_in files s [] next p = rw (loading_none files s next) p
-  loading_in files s (d ∷ ds) next p = rw (loading_first files s d ds next) (drawing_in files s d _ (loading_in files s ds next p))
+  loading_in : (files : Files) (s : SceneRecord) (ds : List ℕ) (over : ℕ) (next : Outcome) → P next → P (loading files s over ds next)
+  loading_in files s [] over next p = rw (loading_none files s over next) p
+  loading_in files s (d ∷ ds) over next p =
+      rw (loading_first files s over d ds next)
+      (stays.asked (file_of s d) _ (accepted_in d (fault_of files s d) _ _ (loading_in files s ds (over + bytes_of files s d) next p)))
 
   rows_in : (s : SceneRecord) (pictures : Pictures) (base rows : List ℕ) (next : Outcome) → P next → P (placing_rows s pictures base rows next)
   unfolding placing
@@ -71,16 +81,18 @@ module _ (P : Outcome → Type 0) (stays : Stays P) where
   rows_in s pictures base (row ∷ rows) next p =
       rw (placing_first s pictures base row rows next) (stays.placed (frame_at s pictures base row) _ (rows_in s pictures base rows next p))
 
-  sections_in : (files : Files) (s : SceneRecord) (base earlier : List ℕ) (sections : List (List ℕ)) (next : Outcome) → P next
-      → P (rendering_sections files s base earlier sections next)
-  sections_in files s base earlier [] next p = rw (sections_none files s base earlier next) p
-  sections_in files s base earlier (rows ∷ sections) next p =
-      let rest = rendering_sections files s base (earlier ++ rows) sections next in
-      rw (sections_first files s base earlier rows sections next, section_is files s base earlier rows rest)
-      (loading_in files s _ _ (rows_in s (pictures_of files s) base rows rest (sections_in files s base (earlier ++ rows) sections next p)))
+  sections_in : (files : Files) (s : SceneRecord) (base : List ℕ) (p : PlanRecord) (n : ℕ) (earlier : List ℕ) (sections : List (List ℕ)) (next : Outcome)
+      → P next → P (rendering_sections files s base p n earlier sections next)
+  sections_in files s base p n earlier [] next holds = rw (sections_none files s base p n earlier next) holds
+  sections_in files s base p n earlier (rows ∷ sections) next holds =
+      let rest = rendering_sections files s base p (n + 1) (earlier ++ rows) sections next in
+      rw (sections_first files s base p n earlier rows sections next, section_is files s base p n earlier rows rest)
+      (loading_in files s _ _ _ (rows_in s (pictures_of files s) base rows rest (sections_in files s base p (n + 1) (earlier ++ rows) sections next holds)))
 
-  pub scene_in : (files : Files) (s : SceneRecord) (base : List ℕ) (from to : ℕ) → P (closing (to + 1 - from)) → P (rendering_scene files from to base s)
-  scene_in files s base from to p = sections_in files s base [] (sections_of from to) _ p
+  pub scene_in : (files : Files) (s : SceneRecord) (base : List ℕ) (from to : ℕ) → P (closing (plan_in s from to)) → P (rendering_scene files from to base s)
+  scene_in files s base from to p =
+      within_in (limit_in s from to) (rendering_rows files s from to base (plan_in s from to))
+      (sections_in files s base (plan_in s from to) 0 [] (sections_of from to) _ p)
 
   -- and so of what follows a scene, where it is so of each answer that tells a scene
   module _ (refused : (fault : SceneFault) → P (ended (answers.Scene fault))) (next : SceneRecord → Outcome) (p : (s : SceneRecord) → P (next s)) where
@@ -100,12 +112,13 @@ module _ (P : Outcome → Type 0) (stays : Stays P) where
         (refused _) (refused _) (λ bytes. decoded_in (scene_of bytes)))
 
 -- what is so of an answer
-pub status_stays : (P : Status → Type 0) → ((d : ℕ) (code : LevelCode) → P (answers.Level d code)) → Stays (λ o. P o.status)
-status_stays P told = record { told = told; asked = λ name next p. p; placed = λ object next p. p }
+pub status_stays : (P : Status → Type 0) → ((d : ℕ) (code : LevelCode) → P (answers.Level d code))
+    → ((w : What) (limit : ℕ) → P (answers.Limit w limit)) → Stays (λ o. P o.status)
+status_stays P told limited = record { told = told; limited = limited; asked = λ name next p. p; placed = λ object next p. p }
 
-pub closing_ends : (rows : ℕ) → (closing rows).status ≡ answers.Ok
+pub closing_ends : (p : PlanRecord) → (closing p).status ≡ answers.Ok
 unfolding closing noting
-closing_ends rows = refl
+closing_ends p = refl
 
 -- ---- a scene that is not there or too long
 
@@ -175,7 +188,7 @@ module _ (texts : TextCodes) (checking : CheckingCodes) (files : Files) (name : 
 -- a render, and a scene that is shown, tell neither behind the scene
 pub render_kept : (files : Files) (base : List ℕ) (from to : ℕ) (s : SceneRecord) → is_lost (rendering_scene files from to base s).status ≡ false
 render_kept files base from to s =
-    scene_in (λ o. is_lost o.status ≡ false) (status_stays (λ status. is_lost status ≡ false) (λ d code. refl)) files s base from to
+    scene_in (λ o. is_lost o.status ≡ false) (status_stays (λ status. is_lost status ≡ false) (λ d code. refl) (λ w limit. refl)) files s base from to
     (ap is_lost (closing_ends _))
 
 pub show_kept : (s : SceneRecord) → is_lost (showing_scene s).status ≡ false

@@ -1,5 +1,5 @@
 -- What a render does that meets no fault.
-use Rattle.std.proofs.Common.{◌≡◌, ℕ, zero, suc, ◌+◌, ◌-◌, ◌*◌, ◌≤◌, min, true, ◌||◌, ◌==◌, List, [], ◌∷◌, ◌++◌, map, flat_map, None, refl, sym, ap, ◌∙◌, append_assoc, arith}
+use Rattle.std.proofs.Common.{◌≡◌, ℕ, zero, suc, ◌+◌, ◌-◌, ◌*◌, ◌≤◌, min, true, false, ◌||◌, ◌==◌, inl, inr, All, List, [], ◌∷◌, ◌++◌, map, flat_map, Option, Some, None, refl, sym, ap, ◌∙◌, subst, append_assoc, arith}
 use Rattle.std.specs.List.{range_with_len}
 use Rattle.std.proofs.Math.Bool.{or-true}
 use Rattle.std.proofs.lemmas.Bool.Decides.{nat_tests}
@@ -14,20 +14,31 @@ use Rattle.xs_check.specs.Passes.{first_fault}
 use Rattle.xs_scene.specs.Records.{SceneRecord}
 use Rattle.xs_top.specs.declared.status.Status.TheVariants as answers
 use Rattle.xs_top.specs.Trace.{Event, Ask, Place, Line, asks, puts, lines, Outcome, ended, after}
-use Rattle.xs_top.specs.Files.{Files}
+use Rattle.xs_levels.specs.Films.{Files}
 use Rattle.xs_top.specs.Frames.{frame_at}
-use Rattle.xs_top.specs.Levels.{file_of, pictures_of}
+use Rattle.xs_top.specs.Drawings.{file_of, pictures_of, bytes_held_over}
 use Rattle.xs_meaning.specs.Expressions.{needed}
 use Rattle.xs_base.specs.Sections.{rows_of, section_rows, sections_in, sections_of, rows_before}
 use Rattle.xs_top.specs.Finished.{Says, IsAccepted, AreAccepted, frames_of}
-use Rattle.xs_top.specs.Outcome.{asking, placing, noting, decoded, if_faultless, loading_scene, loading_drawing, loading, placing_rows, rendering_section, rendering_sections, rendered_line, closing, rendering_scene, rendering}
+use Rattle.xs_top.specs.Demand.{limit_in, plan_in}
+use Rattle.xs_top.specs.Loads.{loads_over, loads_in, loads, IsLoaded, StopsAt}
+use Rattle.xs_top.specs.Rendered.{AreWithin}
+use Rattle.xs_top.specs.declared.limits.TheConstants.{MOST_SECTION_BYTES}
+use Rattle.xs_top.specs.declared.status.Status.{Status}
+use Rattle.xs_plan.specs.Record.{PlanRecord}
+use Rattle.xs_demand.specs.Limits.{Limit}
+use Rattle.xs_dryrun.specs.declared.limits.What.TheVariants as what
+use Rattle.xs_top.proofs.Walking.{Load, numbers, Cause, Walked, loading_walked, numbers_over, walked_then, walked_to, loaded_at, no_cause, one_first}
+use Rattle.xs_top.specs.Outcome.{asking, placing, noting, decoded, if_faultless, within_limits, loading_scene, placing_rows, rendering_sections, rendered_line, closing, rendering_scene, rendering}
 use Rattle.xs_top.proofs.Parts.{asks-append, puts-append, lines-append, after-after}
 use Rattle.xs_top.proofs.Answered.{found_there}
 use Rattle.xs_top.proofs.Scenes.{scene_asked}
-use Rattle.xs_top.proofs.Listings.{TakenOnce, listed-append, fresh_listed}
+use Rattle.xs_top.proofs.Listings.{TakenOnce, fresh_listed}
 use Rattle.xs_top.proofs.RowRanges.{range-append}
-use Rattle.xs_top.proofs.Drawn.{drawing_asked, loading_none, loading_first}
+use Rattle.xs_top.proofs.Drawn.{asked_of, asks-asked, puts-asked, lines-asked}
 use Rattle.xs_top.proofs.Placed.{placing_none, placing_first}
+use Rattle.std.proofs.lemmas.Bool.{cases_eq, ne_eqb}
+use Rattle.std.proofs.lemmas.List.Elements.{All-nil, All-cons, All-head, All-tail, All-weaker}
 use Rattle.xs_top.proofs.Sections.{section_is, sections_first, sections_none, sections_are, rows_before_more}
 
 -- ---- the rows of all sections
@@ -48,26 +59,7 @@ all_rows from to ordered =
     let all : min (8 * sections_in from to) (to + 1 - from) ≡ to + 1 - from = omega arith in
     rows_up_to from to (sections_in from to) ordered (omega arith) ∙ ap (range_with_len from) all
 
--- ---- drawings that are accepted
-
-abbrev asked_of : SceneRecord → ℕ → Event
-asked_of s d = Ask (file_of s d)
-
-pub drawing_through : (files : Files) (s : SceneRecord) (d : ℕ) (next : Outcome) → IsAccepted files s d
-    → loading_drawing files s d next ≡ after (asked_of s d ∷ []) next
-unfolding asking
-drawing_through files s d next ok =
-    drawing_asked files s d _ next refl
-    ∙ ap (after (asked_of s d ∷ [])) (found_there _ _ _ _ (files (file_of s d)) ok.bytes ok.there ok.short ∙ rw ok.faultless refl)
-
-loading_through : (files : Files) (s : SceneRecord) (ds : List ℕ) (next : Outcome) → ((d : ℕ) → is_listed ds d ≡ true → IsAccepted files s d)
-    → loading files s ds next ≡ after (map (asked_of s) ds) next
-loading_through files s [] next ok = loading_none files s next
-loading_through files s (d ∷ ds) next ok =
-    let here : is_listed (d ∷ ds) d ≡ true = grind (arith, nat_tests) in
-    loading_first files s d ds next
-    ∙ (drawing_through files s d (loading files s ds next) (ok d here)
-    ∙ ap (after (asked_of s d ∷ [])) (loading_through files s ds next (λ e listed. ok e (ap (λ t. (d == e) || t) listed ∙ or-true _))))
+-- ---- what the events of frames tell
 
 pub placed_of : SceneRecord → Pictures → List ℕ → ℕ → Event
 placed_of s pictures base row = Place (frame_at s pictures base row)
@@ -78,20 +70,6 @@ unfolding placing placed_of
 placing_through s pictures base [] next = placing_none s pictures base next
 placing_through s pictures base (row ∷ rows) next =
     placing_first s pictures base row rows next ∙ ap (after (Place (frame_at s pictures base row) ∷ [])) (placing_through s pictures base rows next)
-
--- ---- what the events of drawings and of frames tell
-
-asks-asked : (s : SceneRecord) (ds : List ℕ) → asks (map (asked_of s) ds) ≡ map (file_of s) ds
-asks-asked s [] = refl
-asks-asked s (d ∷ ds) = ap (λ l. file_of s d ∷ l) (asks-asked s ds)
-
-puts-asked : (s : SceneRecord) (ds : List ℕ) → puts (map (asked_of s) ds) ≡ []
-puts-asked s [] = refl
-puts-asked s (d ∷ ds) = puts-asked s ds
-
-lines-asked : (s : SceneRecord) (ds : List ℕ) → lines (map (asked_of s) ds) ≡ []
-lines-asked s [] = refl
-lines-asked s (d ∷ ds) = lines-asked s ds
 
 module _ (s : SceneRecord) (pictures : Pictures) (base : List ℕ) where
   pub asks-placed : (rows : List ℕ) → asks (map (placed_of s pictures base) rows) ≡ []
@@ -126,42 +104,70 @@ sections_events s pictures base earlier (rows ∷ sections) =
 pub needed-append : (s : SceneRecord) (rows more : List ℕ) → needed s (rows ++ more) ≡ needed s rows ++ needed s more
 needed-append s rows more = flat_map-append (λ row. drawings_of (root_of s row)) rows more
 
-accepted_left : (files : Files) (s : SceneRecord) (rows more : List ℕ) → AreAccepted files s (rows ++ more) → AreAccepted files s rows
-accepted_left files s rows more ok d listed =
-    ok d
-    (ap (λ l. is_listed l d) (needed-append s rows more)
-    ∙ (listed-append (needed s rows) (needed s more) d ∙ ap (λ t. t || is_listed (needed s more) d) listed))
+-- the drawings that sections load, one section after another
+sections_loads : Files → SceneRecord → PlanRecord → ℕ → List ℕ → List (List ℕ) → List Load
+sections_loads files s p n earlier [] = []
+sections_loads files s p n earlier (rows ∷ sections) =
+    loads_over files s (bytes_held_over files s p n) (fresh (needed s earlier) (needed s rows)) ++ sections_loads files s p (n + 1) (earlier ++ rows) sections
 
--- what a section loads is needed
-needed_fresh : TakenOnce → (s : SceneRecord) (earlier rows : List ℕ) (d : ℕ) → is_listed (fresh (needed s earlier) (needed s rows)) d ≡ true
-    → is_listed (needed s (earlier ++ rows)) d ≡ true
-needed_fresh once s earlier rows d listed =
-    let first = needed s earlier in
-    ap (λ l. is_listed l d) (needed-append s earlier rows)
-    ∙
-    (sym (fresh_listed once first (needed s rows) d)
-    ∙ (listed-append first (fresh first (needed s rows)) d ∙ (ap (λ t. is_listed first d || t) listed ∙ or-true _)))
+module _ (files : Files) (s : SceneRecord) (base : List ℕ) (p : PlanRecord) where
+  -- frames that are placed before what follows
+  placed_walked : (rows : List ℕ) (loads : List Load) (events : List Event) (rest next : Outcome) → Walked files s loads events rest next
+      → Walked files s loads (map (placed_of s (pictures_of files s) base) rows ++ events) (placing_rows s (pictures_of files s) base rows rest) next
+  placed_walked rows loads events rest next (inl (all, same)) = inl (
+    all,
+    placing_through s (pictures_of files s) base rows rest
+        ∙ (ap (after (map (placed_of s (pictures_of files s) base) rows)) same ∙ after-after (map (placed_of s (pictures_of files s) base) rows) events next),
+  )
+  placed_walked rows loads events rest next (inr stop) = inr (record {
+    before = stop.before;
+    behind = stop.behind;
+    load = stop.load;
+    place = stop.place;
+    loaded = stop.loaded;
+    status = stop.status;
+    cause = stop.cause;
+    ends = ap (λ o. o.status) (placing_through s (pictures_of files s) base rows rest) ∙ stop.ends;
+    asked =
+        ap (λ o. asks o.work) (placing_through s (pictures_of files s) base rows rest)
+        ∙ (asks-append (map (placed_of s (pictures_of files s) base) rows) rest.work
+        ∙ (ap (λ l. l ++ asks rest.work) (asks-placed s (pictures_of files s) base rows) ∙ stop.asked));
+  })
 
-section_through : TakenOnce → (files : Files) (s : SceneRecord) (base earlier rows : List ℕ) (next : Outcome) → AreAccepted files s (earlier ++ rows)
-    → rendering_section files s base earlier rows next ≡ after (section_events s (pictures_of files s) base earlier rows) next
-unfolding section_events
-section_through once files s base earlier rows next ok =
-    section_is files s base earlier rows next
-    ∙ (loading_through files s (fresh (needed s earlier) (needed s rows)) _ (λ d listed. ok d (needed_fresh once s earlier rows d listed))
-    ∙ (ap (after (map (asked_of s) (fresh (needed s earlier) (needed s rows)))) (placing_through s (pictures_of files s) base rows next)
-    ∙ after-after (map (asked_of s) (fresh (needed s earlier) (needed s rows))) (map (placed_of s (pictures_of files s) base) rows) next))
+  sections_walked : (sections : List (List ℕ)) (n : ℕ) (earlier : List ℕ) (next : Outcome)
+      → Walked files s (sections_loads files s p n earlier sections) (sections_events s (pictures_of files s) base earlier sections)
+      (rendering_sections files s base p n earlier sections next) next
+  unfolding sections_loads sections_events section_events
+  sections_walked [] n earlier next = inl (All-nil (IsLoaded files s), sections_none files s base p n earlier next)
+  sections_walked (rows ∷ sections) n earlier next =
+      let news = fresh (needed s earlier) (needed s rows) in
+      let over = bytes_held_over files s p n in
+      let rest = rendering_sections files s base p (n + 1) (earlier ++ rows) sections next in
+      let placed = placing_rows s (pictures_of files s) base rows rest in
+      let later = placed_walked rows _ _ rest next (sections_walked sections (n + 1) (earlier ++ rows) next) in
+      let tell : asks (map (asked_of s) news) ≡ map (file_of s) (numbers (loads_over files s over news)) =
+      asks-asked s news ∙ ap (map (file_of s)) (sym (numbers_over files s news over)) in
+      rw (
+        sections_first files s base p n earlier rows sections next,
+        section_is files s base p n earlier rows rest,
+        append_assoc (map (asked_of s) news) (map (placed_of s (pictures_of files s) base) rows)
+            (sections_events s (pictures_of files s) base (earlier ++ rows) sections),
+      )
+      (walked_then files s _ _ _ _ _ placed next tell (loading_walked files s news over placed) later)
 
-sections_through : TakenOnce → (files : Files) (s : SceneRecord) (base : List ℕ) (sections : List (List ℕ)) (earlier : List ℕ) (next : Outcome)
-    → AreAccepted files s (earlier ++ joined sections)
-    → rendering_sections files s base earlier sections next ≡ after (sections_events s (pictures_of files s) base earlier sections) next
-unfolding sections_events
-sections_through once files s base [] earlier next ok = sections_none files s base earlier next
-sections_through once files s base (rows ∷ sections) earlier next ok =
-    let all : AreAccepted files s ((earlier ++ rows) ++ joined sections) = rw (append_assoc earlier rows (joined sections)) ok in
-    sections_first files s base earlier rows sections next
-    ∙ (section_through once files s base earlier rows _ (accepted_left files s (earlier ++ rows) (joined sections) all)
-    ∙ (ap (after (section_events s (pictures_of files s) base earlier rows)) (sections_through once files s base sections (earlier ++ rows) next all)
-    ∙ after-after (section_events s (pictures_of files s) base earlier rows) (sections_events s (pictures_of files s) base (earlier ++ rows) sections) next))
+  -- they are those that the sections' rows need, each once
+  sections_numbers : TakenOnce → (sections : List (List ℕ)) (n : ℕ) (earlier : List ℕ)
+      → numbers (sections_loads files s p n earlier sections) ≡ fresh (needed s earlier) (needed s (joined sections))
+  unfolding sections_loads fresh
+  sections_numbers once [] n earlier = refl
+  sections_numbers once (rows ∷ sections) n earlier =
+      let news = fresh (needed s earlier) (needed s rows) in
+      map-append (λ (load : Load). load.0) (loads_over files s (bytes_held_over files s p n) news) (sections_loads files s p (n + 1) (earlier ++ rows) sections)
+      ∙ (ap (λ l. l ++ numbers (sections_loads files s p (n + 1) (earlier ++ rows) sections)) (numbers_over files s news (bytes_held_over files s p n))
+      ∙ (ap (λ l. news ++ l)
+      (sections_numbers once sections (n + 1) (earlier ++ rows) ∙ ap (λ l. fresh l (needed s (joined sections))) (needed-append s earlier rows))
+      ∙ (sym (once.all (needed s earlier) (needed s rows) (needed s (joined sections)))
+      ∙ ap (fresh (needed s earlier)) (sym (needed-append s rows (joined sections))))))
 
 module _ (s : SceneRecord) (pictures : Pictures) (base : List ℕ) where
   section_puts : (earlier rows : List ℕ) → puts (section_events s pictures base earlier rows) ≡ map (frame_at s pictures base) rows
@@ -235,35 +241,96 @@ joined_sections from to ordered =
     ap joined (sections_are from to)
     ∙ (flat_map-map (λ rows. rows) (section_rows from to) (range_with_len 0 (sections_in from to)) ∙ all_rows from to ordered)
 
-abbrev closing_events : ℕ → List Event
-closing_events rows = Line (rendered_line rows) ∷ []
+abbrev closing_events : PlanRecord → List Event
+closing_events p = Line (rendered_line p) ∷ []
+
+-- the drawings of a scene's rows, section by section
+loads_from : (files : Files) (s : SceneRecord) (from to n i : ℕ)
+    → sections_loads files s (plan_in s from to) i (rows_before from to i) (map (section_rows from to) (range_with_len i n))
+    ≡ flat_map (loads_in files s from to) (range_with_len i n)
+unfolding sections_loads
+loads_from files s from to zero i = refl
+loads_from files s from to (suc n) i =
+    ap (λ l. loads_in files s from to i ++ l)
+    (ap (λ earlier. sections_loads files s (plan_in s from to) (i + 1) earlier (map (section_rows from to) (range_with_len (i + 1) n))) (sym (rows_before_more from to i))
+    ∙ loads_from files s from to n (i + 1))
+
+loads_are : (files : Files) (s : SceneRecord) (from to : ℕ)
+    → sections_loads files s (plan_in s from to) 0 [] (sections_of from to) ≡ loads files s from to
+loads_are files s from to =
+    ap (sections_loads files s (plan_in s from to) 0 []) (sections_are from to) ∙ loads_from files s from to (sections_in from to) 0
+
+pub numbers_loaded : TakenOnce → (files : Files) (s : SceneRecord) (from to : ℕ) → from ≤ to
+    → numbers (loads files s from to) ≡ each_once (needed s (rows_of from to))
+numbers_loaded once files s from to ordered =
+    ap numbers (sym (loads_are files s from to))
+    ∙ (sections_numbers files s [] (plan_in s from to) once (sections_of from to) 0 [] ∙ ap (λ rows. fresh [] (needed s rows)) (joined_sections from to ordered))
+
+-- what a render of a scene's rows has done
+pub rows_events : Files → SceneRecord → List ℕ → (from to : ℕ) → List Event
+rows_events files s base from to =
+    sections_events s (pictures_of files s) base [] (sections_of from to) ++ closing_events (plan_in s from to)
+
+pub scene_walked : (files : Files) (s : SceneRecord) (base : List ℕ) (from to : ℕ) → limit_in s from to ≡ None
+    → Walked files s (loads files s from to) (rows_events files s base from to) (rendering_scene files from to base s) (ended answers.Ok)
+unfolding rows_events closing noting
+scene_walked files s base from to none =
+    let p = plan_in s from to in
+    let walked = sections_walked files s base p (sections_of from to) 0 [] (closing p) in
+    rw (none, ← loads_are files s from to)
+    (walked_to files s _ (sections_events s (pictures_of files s) base [] (sections_of from to)) (closing_events p) _ (ended answers.Ok) walked)
+
+pub accepted_loads : (files : Files) (s : SceneRecord) (l : List Load) → ((d : ℕ) → is_listed (numbers l) d ≡ true → IsAccepted files s d)
+    → All (λ load. load.1 ≤ MOST_SECTION_BYTES) l → All (IsLoaded files s) l
+accepted_loads files s [] ok few = All-nil (IsLoaded files s)
+accepted_loads files s (load ∷ l) ok few =
+    let here : is_listed (numbers (load ∷ l)) load.0 ≡ true = grind (arith, nat_tests) in
+    All-cons (IsLoaded files s) load l
+    (record { accepted = ok load.0 here; fits = All-head (λ (x : Load). x.1 ≤ MOST_SECTION_BYTES) load l few })
+    (accepted_loads files s l (λ d listed. ok d (ap (λ t. (load.0 == d) || t) listed ∙ or-true _)) (All-tail (λ (x : Load). x.1 ≤ MOST_SECTION_BYTES) load l few))
+
+module _ (files : Files) (name base : List ℕ) (s : SceneRecord) (from to : ℕ) (says : Says files name s) (good : first_fault s ≡ None) where
+  pub render_is : rendering files name from to base ≡ after (Ask name ∷ []) (rendering_scene files from to base s)
+  unfolding rendering
+  render_is =
+      scene_through files name s (rendering_scene files from to base) says
+      ∙ ap (λ found. after (Ask name ∷ []) (if_faultless found (rendering_scene files from to base s))) good
 
 module _ (once : TakenOnce) (files : Files) (name base : List ℕ) (s : SceneRecord) (from to : ℕ) (ordered : from ≤ to) (says : Says files name s)
-    (good : first_fault s ≡ None) (ok : AreAccepted files s (rows_of from to)) where
+    (good : first_fault s ≡ None) (within : AreWithin files s from to) (ok : AreAccepted files s (rows_of from to)) where
+  all_loaded : All (IsLoaded files s) (loads files s from to)
+  all_loaded =
+      accepted_loads files s (loads files s from to)
+      (λ d listed. ok d (sym (fresh_listed once [] (needed s (rows_of from to)) d) ∙ (ap (λ l. is_listed l d) (sym (numbers_loaded once files s from to ordered)) ∙ listed)))
+      within.sections
+
   events : List Event
   events = sections_events s (pictures_of files s) base [] (sections_of from to)
 
-  rendered : rendering files name from to base ≡ after (Ask name ∷ (events ++ closing_events (to + 1 - from))) (ended answers.Ok)
-  unfolding rendering closing noting events
+  goes_through : Walked files s (loads files s from to) (rows_events files s base from to) (rendering_scene files from to base s) (ended answers.Ok)
+      → rendering_scene files from to base s ≡ after (rows_events files s base from to) (ended answers.Ok)
+  goes_through (inl (all, same)) = same
+  goes_through (inr stop) =
+      absurd (no_cause files s stop.load stop.status
+      (loaded_at files s stop.before stop.load stop.behind (subst (All (IsLoaded files s)) stop.place all_loaded)) stop.cause)
+
+  rendered : rendering files name from to base ≡ after (Ask name ∷ (events ++ closing_events (plan_in s from to))) (ended answers.Ok)
+  unfolding rows_events events
   rendered =
-      let all : AreAccepted files s (joined (sections_of from to)) = rw (joined_sections from to ordered) ok in
-      scene_through files name s (rendering_scene files from to base) says
-      ∙ (ap (λ found. after (Ask name ∷ []) (if_faultless found (rendering_scene files from to base s))) good
-      ∙
-      (ap (after (Ask name ∷ []))
-      (sections_through once files s base (sections_of from to) [] (closing (to + 1 - from)) all ∙ after-after events (closing_events (to + 1 - from)) (ended answers.Ok))
-      ∙ after-after (Ask name ∷ []) (events ++ closing_events (to + 1 - from)) (ended answers.Ok)))
+      render_is files name base s from to says good
+      ∙ (ap (after (Ask name ∷ [])) (goes_through (scene_walked files s base from to within.demand))
+      ∙ after-after (Ask name ∷ []) (events ++ closing_events (plan_in s from to)) (ended answers.Ok))
 
   pub rendered_ends : (rendering files name from to base).status ≡ answers.Ok
   rendered_ends = ap (λ o. o.status) rendered
 
-  work_is : (rendering files name from to base).work ≡ Ask name ∷ (events ++ closing_events (to + 1 - from))
+  work_is : (rendering files name from to base).work ≡ Ask name ∷ (events ++ closing_events (plan_in s from to))
   work_is = ap (λ o. o.work) rendered ∙ append-nil _
 
   pub rendered_asks : asks (rendering files name from to base).work ≡ name ∷ map (file_of s) (each_once (needed s (rows_of from to)))
   unfolding events
   rendered_asks =
-      ap asks work_is ∙ ap (λ l. name ∷ l) (asks-append events (closing_events (to + 1 - from))
+      ap asks work_is ∙ ap (λ l. name ∷ l) (asks-append events (closing_events (plan_in s from to))
       ∙
       (append-nil _
       ∙ (sections_asks s (pictures_of files s) base once (sections_of from to) [] ∙ ap (λ rows. map (file_of s) (fresh [] (needed s rows))) (joined_sections from to ordered))))
@@ -271,12 +338,83 @@ module _ (once : TakenOnce) (files : Files) (name base : List ℕ) (s : SceneRec
   pub rendered_puts : puts (rendering files name from to base).work ≡ frames_of files s base (rows_of from to)
   unfolding events
   rendered_puts =
-      ap puts work_is ∙ (puts-append events (closing_events (to + 1 - from))
+      ap puts work_is ∙ (puts-append events (closing_events (plan_in s from to))
       ∙
       (append-nil _ ∙ (sections_puts s (pictures_of files s) base (sections_of from to) [] ∙ ap (frames_of files s base) (joined_sections from to ordered))))
 
-  pub rendered_lines : lines (rendering files name from to base).work ≡ rendered_line (to + 1 - from) ++ 10 ∷ []
+  pub rendered_lines : lines (rendering files name from to base).work ≡ rendered_line (plan_in s from to) ++ 10 ∷ []
   unfolding events
   rendered_lines =
-      ap lines work_is ∙ (lines-append events (closing_events (to + 1 - from))
-      ∙ ap (λ l. l ++ lines (closing_events (to + 1 - from))) (sections_lines s (pictures_of files s) base (sections_of from to) []))
+      ap lines work_is ∙ (lines-append events (closing_events (plan_in s from to))
+      ∙ ap (λ l. l ++ lines (closing_events (plan_in s from to))) (sections_lines s (pictures_of files s) base (sections_of from to) []))
+
+-- ---- a render that ends otherwise
+
+module _ (files : Files) (name base : List ℕ) (s : SceneRecord) (from to : ℕ) (says : Says files name s) (good : first_fault s ≡ None) where
+  abbrev answer : Status
+  answer = (rendering files name from to base).status
+
+  abbrev Walk : Type 0
+  Walk = Walked files s (loads files s from to) (rows_events files s base from to) (rendering_scene files from to base s) (ended answers.Ok)
+
+  scene_ends : answer ≡ (rendering_scene files from to base s).status
+  scene_ends = ap (λ o. o.status) (render_is files name base s from to says good)
+
+  within_ends : (limit : Option Limit) (next : Outcome) → (within_limits limit next).status ≡ answers.Ok → limit ≡ None
+  within_ends None next ends = refl
+  within_ends (Some limit) next ends = absurd cc
+
+  ended_whole : Walk → (rendering_scene files from to base s).status ≡ answers.Ok → All (IsLoaded files s) (loads files s from to)
+  ended_whole (inl (all, same)) ends = all
+  ended_whole (inr stop) ends = absurd (ends_stopped stop.load stop.status (sym stop.ends ∙ ends) stop.cause)
+    where
+      ends_stopped : (load : Load) (status : Status) → status ≡ answers.Ok → Cause files s load status → ⊥
+      ends_stopped load status ends (inl (code, is, refused)) = let same : answers.Level load.0 code ≡ answers.Ok = sym is ∙ ends in absurd cc
+      ends_stopped load status ends (inr (is, accepted, past)) =
+          let same : answers.Limit what.SectionBytes MOST_SECTION_BYTES ≡ answers.Ok = sym is ∙ ends in absurd cc
+
+  pub rendered_within : answer ≡ answers.Ok → AreWithin files s from to
+  rendered_within ends =
+      let scene = sym scene_ends ∙ ends in
+      let none = within_ends (limit_in s from to) _ scene in
+      let all = ended_whole (scene_walked files s base from to none) scene in
+      record { demand = none; sections = All-weaker (IsLoaded files s) (λ (x : Load). x.1 ≤ MOST_SECTION_BYTES) (λ x ok. ok.fits) (loads files s from to) all }
+
+  loaded_accepted : (l : List Load) (d : ℕ) → All (IsLoaded files s) l → is_listed (numbers l) d ≡ true → IsAccepted files s d
+  loaded_accepted [] d all listed = absurd cc
+  loaded_accepted (load ∷ l) d all listed =
+      elim (cases_eq load.0 d) [
+        | inl same ↦ subst (IsAccepted files s) same (All-head (IsLoaded files s) load l all).accepted
+        | inr apart ↦
+            let other : (load.0 == d) ≡ false = ne_eqb load.0 d apart in
+            loaded_accepted l d (All-tail (IsLoaded files s) load l all) (ap (λ t. t || is_listed (numbers l) d) (sym other) ∙ listed)
+      ]
+
+  pub rendered_accepted : TakenOnce → from ≤ to → answer ≡ answers.Ok → AreAccepted files s (rows_of from to)
+  rendered_accepted once ordered ends d listed =
+      let scene = sym scene_ends ∙ ends in
+      let none = within_ends (limit_in s from to) _ scene in
+      let all = ended_whole (scene_walked files s base from to none) scene in
+      loaded_accepted (loads files s from to) d all
+      (ap (λ l. is_listed l d) (numbers_loaded once files s from to ordered) ∙ (fresh_listed once [] (needed s (rows_of from to)) d ∙ listed))
+
+  module _ (none : limit_in s from to ≡ None) where
+    -- a drawing at which rows stop, and for which they do not go on, is the one that is told
+    pub stopped_at : (load : Load) → StopsAt files s from to load → (IsLoaded files s load → ⊥)
+        → (status : Status) × Cause files s load status × (answer ≡ status)
+    stopped_at load stops never = stopped_by (scene_walked files s base from to none)
+      where
+        stopped_by : Walk → (status : Status) × Cause files s load status × (answer ≡ status)
+        stopped_by (inl (all, same)) =
+            absurd (never (loaded_at files s stops.before load stops.behind (subst (All (IsLoaded files s)) stops.place all)))
+        stopped_by (inr stop) =
+            let not_stop : IsLoaded files s stop.load → ⊥ = λ ok. no_cause files s stop.load stop.status ok stop.cause in
+            let same = one_first files s stops.before stop.before stops.behind stop.behind load stop.load (sym stops.place ∙ stop.place) stops.loaded stop.loaded never not_stop in
+            (stop.status, subst (λ (x : Load). Cause files s x stop.status) (sym same) stop.cause, scene_ends ∙ stop.ends)
+
+-- a file says one scene, which has no fault where it was found to have none
+pub says_once : (files : Files) (name : List ℕ) (t s : SceneRecord) → Says files name t → Says files name s → first_fault t ≡ None → first_fault s ≡ None
+says_once files name t s first then good =
+    let bytes : first.bytes ≡ then.bytes = cc (first.there, then.there) in
+    let same : t ≡ s = cc (first.text, then.text, bytes) in
+    ap first_fault (sym same) ∙ good

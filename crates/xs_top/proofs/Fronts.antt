@@ -1,5 +1,5 @@
 -- The files that a render puts on the shelf are frames of its rows from the first on.
-use Rattle.std.proofs.Common.{◌≡◌, ℕ, ◌+◌, ◌-◌, ◌≤◌, Bool, true, false, List, [], ◌∷◌, ◌++◌, length, map, nat_le, if◌then◌else◌, Option, Some, None, Ok, Err, ◌⊎◌, inl, inr, refl, ap, ◌∙◌, arith}
+use Rattle.std.proofs.Common.{◌≡◌, ℕ, ◌+◌, ◌-◌, ◌≤◌, Bool, true, false, List, [], ◌∷◌, ◌++◌, length, map, nat_le, if◌then◌else◌, Option, Some, None, Ok, Err, ◌⊎◌, inl, inr, refl, ap, ◌∙◌, subst, arith}
 use Rattle.std.proofs.lemmas.Bool.Decides.{nat_tests}
 use Rattle.std.proofs.lemmas.List.{map-append}
 use Rattle.xs_outside.specs.declared.object.Object.{Object}
@@ -15,12 +15,17 @@ use Rattle.xs_base.specs.declared.limits.TheConstants.{SCENE_LIMIT}
 use Rattle.xs_top.specs.declared.status.Status.{Status}
 use Rattle.xs_top.specs.declared.status.Status.TheVariants as answers
 use Rattle.xs_top.specs.Trace.{Ask, Place, puts, Outcome, ended, after}
-use Rattle.xs_top.specs.Files.{Files}
+use Rattle.xs_levels.specs.Films.{Files}
 use Rattle.xs_top.specs.Frames.{frame_at}
-use Rattle.xs_top.specs.Levels.{file_of, pictures_of}
+use Rattle.xs_top.specs.Drawings.{file_of, pictures_of, fault_of, bytes_of}
+use Rattle.xs_top.specs.Demand.{limit_in, plan_in}
+use Rattle.xs_top.specs.declared.limits.TheConstants.{MOST_SECTION_BYTES}
+use Rattle.xs_plan.specs.Record.{PlanRecord}
+use Rattle.xs_demand.specs.Limits.{Limit}
+use Rattle.xs_dryrun.specs.declared.limits.What.TheVariants as what
 use Rattle.xs_base.specs.Sections.{rows_of, sections_of}
 use Rattle.xs_top.specs.Finished.{Says, frames_of}
-use Rattle.xs_top.specs.Outcome.{no_scene, found, asking, placing, noting, if_faultless, decoded, accepted, loading_scene, loading_drawing, loading, placing_rows, rendering_sections, closing, rendering_scene, rendering}
+use Rattle.xs_top.specs.Outcome.{asking, placing, noting, if_faultless, decoded, within_limits, counted, accepted, loading_scene, loading, placing_rows, rendering_sections, closing, rendering_rows, rendering_scene, rendering}
 use Rattle.xs_top.proofs.Answered.{found_absent, found_there, found_too_long}
 use Rattle.xs_top.proofs.Scenes.{scene_asked}
 use Rattle.xs_top.proofs.Drawn.{loading_none, loading_first}
@@ -45,27 +50,22 @@ front_place whole object next f = record { rest = f.rest; split = ap (λ objects
 -- ---- drawings
 
 module _ (whole : List Object) where
-  front_found : (file : Option (List ℕ)) (limit : ℕ) (absent too_long : Status) (next : List ℕ → Outcome)
-      → ((bytes : List ℕ) → IsFront whole (next bytes)) → IsFront whole (found file limit absent too_long next)
-  front_found None limit absent too_long next f = front_ended whole absent
-  front_found (Some bytes) limit absent too_long next f =
-      elim (nat_le (length bytes) limit) as (λ t. IsFront whole (if t then next bytes else ended too_long)) [
-        | true ↦ f bytes
-        | false ↦ front_ended whole too_long
+  front_counted : (bytes : ℕ) (next : Outcome) → IsFront whole next → IsFront whole (counted bytes next)
+  front_counted bytes next f =
+      elim (nat_le bytes MOST_SECTION_BYTES) as (λ t. IsFront whole (if t then next else ended (answers.Limit what.SectionBytes MOST_SECTION_BYTES))) [
+        | true ↦ f
+        | false ↦ front_ended whole _
       ]
 
-  front_accepted : (d : ℕ) (fault : Option LevelCode) (next : Outcome) → IsFront whole next → IsFront whole (accepted d fault next)
-  front_accepted d None next f = f
-  front_accepted d (Some code) next f = front_ended whole _
+  front_accepted : (d : ℕ) (fault : Option LevelCode) (bytes : ℕ) (next : Outcome) → IsFront whole next → IsFront whole (accepted d fault bytes next)
+  front_accepted d None bytes next f = front_counted bytes next f
+  front_accepted d (Some code) bytes next f = front_ended whole _
 
-  front_drawing : (files : Files) (s : SceneRecord) (d : ℕ) (next : Outcome) → IsFront whole next → IsFront whole (loading_drawing files s d next)
-  unfolding loading_drawing asking
-  front_drawing files s d next f =
-      front_ask whole (file_of s d) _ (front_found (files (file_of s d)) _ _ _ _ (λ bytes. front_accepted d _ next f))
-
-  front_loading : (files : Files) (s : SceneRecord) (ds : List ℕ) (next : Outcome) → IsFront whole next → IsFront whole (loading files s ds next)
-  front_loading files s [] next f = rw (loading_none files s next) f
-  front_loading files s (d ∷ ds) next f = rw (loading_first files s d ds next) (front_drawing files s d _ (front_loading files s ds next f))
+  front_loading : (files : Files) (s : SceneRecord) (ds : List ℕ) (over : ℕ) (next : Outcome) → IsFront whole next → IsFront whole (loading files s over ds next)
+  front_loading files s [] over next f = rw (loading_none files s over next) f
+  front_loading files s (d ∷ ds) over next f =
+      rw (loading_first files s over d ds next)
+      (front_ask whole (file_of s d) _ (front_accepted d (fault_of files s d) _ _ (front_loading files s ds (over + bytes_of files s d) next f)))
 
 -- ---- rows and sections
 
@@ -77,22 +77,25 @@ front_rows s pictures base (row ∷ rows) whole next f =
     rw (placing_first s pictures base row rows next)
     (front_place _ (frame_at s pictures base row) _ (front_rows s pictures base rows whole next f))
 
-front_sections : (files : Files) (s : SceneRecord) (base : List ℕ) (sections : List (List ℕ)) (earlier : List ℕ) (next : Outcome) → IsFront [] next
-    → IsFront (frames_of files s base (joined sections)) (rendering_sections files s base earlier sections next)
-front_sections files s base [] earlier next f = rw (sections_none files s base earlier next) f
-front_sections files s base (rows ∷ sections) earlier next f =
-    let rest = rendering_sections files s base (earlier ++ rows) sections next in
+front_sections : (files : Files) (s : SceneRecord) (base : List ℕ) (p : PlanRecord) (sections : List (List ℕ)) (n : ℕ) (earlier : List ℕ) (next : Outcome)
+    → IsFront [] next → IsFront (frames_of files s base (joined sections)) (rendering_sections files s base p n earlier sections next)
+front_sections files s base p [] n earlier next f = rw (sections_none files s base p n earlier next) f
+front_sections files s base p (rows ∷ sections) n earlier next f =
+    let rest = rendering_sections files s base p (n + 1) (earlier ++ rows) sections next in
     rw (
       map-append (frame_at s (pictures_of files s) base) rows (joined sections),
-      sections_first files s base earlier rows sections next,
-      section_is
-          files s base earlier rows rest,
+      sections_first files s base p n earlier rows sections next,
+      section_is files s base p n earlier rows rest,
     )
-    (front_loading _ files s _ _ (front_rows s (pictures_of files s) base rows _ rest (front_sections files s base sections (earlier ++ rows) next f)))
+    (front_loading _ files s _ _ _ (front_rows s (pictures_of files s) base rows _ rest (front_sections files s base p sections (n + 1) (earlier ++ rows) next f)))
 
-front_closing : (rows : ℕ) → IsFront [] (closing rows)
+front_closing : (p : PlanRecord) → IsFront [] (closing p)
 unfolding closing noting
-front_closing rows = record { rest = []; split = refl }
+front_closing p = record { rest = []; split = refl }
+
+front_within : (whole : List Object) (limit : Option Limit) (next : Outcome) → IsFront whole next → IsFront whole (within_limits limit next)
+front_within whole None next f = f
+front_within whole (Some limit) next f = front_ended whole _
 
 front_checked : (whole : List Object) (fault : Option SceneFault) (next : Outcome) → IsFront whole next → IsFront whole (if_faultless fault next)
 front_checked whole None next f = f
@@ -102,9 +105,13 @@ pub front_rendering : (files : Files) (name base : List ℕ) (s : SceneRecord) (
     → IsFront (frames_of files s base (rows_of from to)) (rendering files name from to base)
 unfolding rendering
 front_rendering files name base s from to ordered says =
-    let sections = front_sections files s base (sections_of from to) [] (closing (to + 1 - from)) (front_closing (to + 1 - from)) in
+    let p = plan_in s from to in
+    let sections = front_sections files s base p (sections_of from to) 0 [] (closing p) (front_closing p) in
     rw (scene_through files name s (rendering_scene files from to base) says)
-    (front_ask _ name _ (front_checked _ (first_fault s) (rendering_scene files from to base s) (rw (← joined_sections from to ordered) sections)))
+    (front_ask _ name _
+    (front_checked _ (first_fault s) (rendering_scene files from to base s)
+    (front_within _ (limit_in s from to) (rendering_rows files s from to base p)
+    (subst (λ (rows : List ℕ). IsFront (frames_of files s base rows) (rendering_rows files s from to base p)) (joined_sections from to ordered) sections))))
 
 -- ---- whether a file says a scene
 

@@ -1,5 +1,5 @@
 -- What ends well has a line, so that the notes tell where it was not done.
-use Rattle.std.proofs.Common.{◌≡◌, ℕ, ◌+◌, ◌-◌, List, [], ◌∷◌, ◌++◌, Option, Some, None, Result, length, Ok, Err, refl, sym, ap, ◌∙◌}
+use Rattle.std.proofs.Common.{◌≡◌, ℕ, ◌+◌, ◌-◌, List, [], ◌∷◌, ◌++◌, Option, Some, None, Result, length, Ok, Err, sym, ap, ◌∙◌}
 use Rattle.std.proofs.lemmas.List.{append-nil, append_cancel_left}
 use Rattle.serde_json.specs.Written.{compact_text}
 use Rattle.xs_fault.specs.declared.fault.SceneFault.{SceneFault}
@@ -20,8 +20,9 @@ use Rattle.xs_top.specs.Seen.{Seen}
 use Rattle.xs_top.specs.Causes.{is_noting}
 use Rattle.xs_top.specs.Leaves.{Quiet}
 use Rattle.xs_top.specs.Runs.{Undone}
-use Rattle.xs_top.specs.Files.{Files}
+use Rattle.xs_levels.specs.Films.{Files}
 use Rattle.xs_top.specs.Outcome.{noting, noting_lines, rendered_line, closing, rendering, rendering_scene, within_limits, demanding, demanding_scene, showing, showing_scene, commanding, obeying, outcome}
+use Rattle.xs_plan.specs.Record.{PlanRecord}
 use Rattle.xs_top.proofs.Endings.{Stays, scene_in, scene_loaded_in}
 
 -- ---- what ends well has a line
@@ -32,6 +33,7 @@ HasLine o = o.status ≡ answers.Ok → lines o.work ≡ [] → ⊥
 lines_stay : Stays HasLine
 lines_stay = record {
   told = λ d code ends none. cc;
+  limited = λ w limit ends none. cc;
   asked = λ name next p. p;
   placed = λ object next p. p;
 }
@@ -40,9 +42,9 @@ line_there : (line rest : List ℕ) → line ++ 10 ∷ rest ≡ [] → ⊥
 line_there [] rest e = cc
 line_there (x ∷ line) rest e = cc
 
-closing_line : (rows : ℕ) → HasLine (closing rows)
+closing_line : (p : PlanRecord) → HasLine (closing p)
 unfolding closing noting
-closing_line rows ends none = line_there (rendered_line rows) [] none
+closing_line p ends none = line_there (rendered_line p) [] none
 
 showing_line : (s : SceneRecord) → HasLine (showing_scene s)
 unfolding noting
@@ -80,7 +82,7 @@ pub command_line : (files : Files) (words : Command) → HasLine (commanding fil
 unfolding commanding rendering showing
 command_line files (command.Render scene from to workers base) =
     scene_loaded_in HasLine lines_stay scene_line (rendering_scene files from to base)
-    (λ s. scene_in HasLine lines_stay files s base from to (closing_line (to + 1 - from))) files scene
+    (λ s. scene_in HasLine lines_stay files s base from to (closing_line (plan_in s from to))) files scene
 command_line files (command.Dry scene from to) = demanding_line_there files scene from to
 command_line files (command.Show scene) = scene_loaded_in HasLine lines_stay scene_line showing_scene showing_line files scene
 command_line files (command.Make seed rows workers) = not_yet_line

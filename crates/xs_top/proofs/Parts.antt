@@ -47,7 +47,7 @@ more-more (Some told) first then = ap Some (append_assoc told first then)
 grown-nothing : (seen : Contents) → grown seen [] ≡ seen
 grown-nothing seen = simp more-nothing
 
-grown-grown : (seen : Contents) (first then : List Event) → grown (grown seen first) then ≡ grown seen (first ++ then)
+pub grown-grown : (seen : Contents) (first then : List Event) → grown (grown seen first) then ≡ grown seen (first ++ then)
 grown-grown seen first then = simp (more-more, asks-append, puts-append, lines-append)
 
 pub after-after : (first then : List Event) (left : Outcome) → after first (after then left) ≡ after (first ++ then) left
@@ -201,6 +201,16 @@ keeps_then a b c status first then = record {
   words = then.words;
   same = then.same ∙ first.same;
 }
+
+-- what is left after a part that came through is left where memory is wanted behind it
+pub leaves_memory : (before now : Seen) → Leaves before now answers.Ok → Leaves before now answers.Memory
+leaves_memory before now left = leaves_then before now now answers.Memory left (leaves_nothing now answers.Memory refl refl)
+
+pub memory_inside : IsInside answers.Memory
+memory_inside = record { library = refl; output = refl; words = refl }
+
+pub keeps_memory : (before now : OutsideRecord) → Keeps before now answers.Ok → Keeps before now answers.Memory
+keeps_memory before now keeps = keeps_then before now now answers.Memory keeps (keeps_nothing now answers.Memory memory_inside)
 
 pub quiet_then : (a b c : Seen) (status : Status) → b.told.notes ≡ a.told.notes → Quiet b c status → Quiet a c status
 quiet_then a b c status first then = λ silent. then silent ∙ first

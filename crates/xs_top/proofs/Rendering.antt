@@ -15,7 +15,7 @@ use Rattle.xs_top.specs.Trace.{puts, Outcome, Contents, grown}
 use Rattle.xs_top.specs.Runs.{GainedFront, is_broken, IsRun}
 use Rattle.xs_top.specs.Seen.{Seen}
 use Rattle.xs_top.specs.Ran.{RanRows}
-use Rattle.xs_top.specs.Files.{Files}
+use Rattle.xs_levels.specs.Films.{Files}
 use Rattle.xs_base.specs.Sections.{rows_of}
 use Rattle.xs_top.specs.Finished.{Says, frames_of}
 use Rattle.xs_top.specs.Outcome.{if_faultless, rendering_scene, rendering, commanding, outcome}
@@ -24,8 +24,7 @@ use Rattle.xs_top.proofs.Parts.{more-nothing}
 use Rattle.xs_top.proofs.Wholes.{front}
 use Rattle.xs_top.proofs.Commands.{command_obeyed}
 use Rattle.xs_top.proofs.Listings.{TakenOnce}
-use Rattle.xs_top.proofs.Finishing.{scene_through, rendered_asks, rendered_puts, rendered_lines}
-use Rattle.xs_top.proofs.Accepting.{rendered_accepted}
+use Rattle.xs_top.proofs.Finishing.{scene_through, rendered_asks, rendered_puts, rendered_lines, rendered_within, rendered_accepted}
 use Rattle.xs_top.proofs.Fronts.{says_or_not, front_rendering}
 
 pub checked_good : (fault : Option SceneFault) (next : Outcome) → (if_faultless fault next).status ≡ answers.Ok → fault ≡ None
@@ -57,15 +56,17 @@ module _ (files : Files) (name base : List ℕ) (from to : ℕ) (ordered : from 
       let s = read.0 in
       let says = read.1 in
       let good = read.2 in
-      let ok = rendered_accepted once files name base s from to ordered says ends in
+      let within = rendered_within files name base s from to says good ends in
+      let ok = rendered_accepted files name base s from to says good once ordered ends in
       record {
         scene = s;
         says = says;
         faultless = good;
+        within = within;
         accepted = ok;
-        asked = ap (λ seen. seen.asked) whole ∙ ap (more before.asked) (rendered_asks once files name base s from to ordered says good ok);
-        frames = ap (λ seen. seen.shelf) whole ∙ ap (more before.shelf) (rendered_puts once files name base s from to ordered says good ok);
-        line = ap (λ seen. seen.notes) whole ∙ ap (more before.notes) (rendered_lines once files name base s from to ordered says good ok);
+        asked = ap (λ seen. seen.asked) whole ∙ ap (more before.asked) (rendered_asks once files name base s from to ordered says good within ok);
+        frames = ap (λ seen. seen.shelf) whole ∙ ap (more before.shelf) (rendered_puts once files name base s from to ordered says good within ok);
+        line = ap (λ seen. seen.notes) whole ∙ ap (more before.notes) (rendered_lines once files name base s from to ordered says good within ok);
       }
 
   nothing_placed : ((s : SceneRecord) → Says files name s → ⊥) → puts (rendering files name from to base).work ≡ []

@@ -18,7 +18,7 @@ use Rattle.xs_top.specs.Runs.{Stopped}
 use Rattle.xs_top.specs.declared.status.Status.TheVariants as answers
 use Rattle.xs_top.specs.Causes.{is_lost_scene, IsInside}
 use Rattle.xs_top.specs.Texts.{scene_status}
-use Rattle.xs_top.specs.Files.{Files}
+use Rattle.xs_levels.specs.Films.{Files}
 use Rattle.xs_top.specs.Outcome.{no_scene, asking, if_faultless, decoded, loading_scene}
 use Rattle.xs_check.specs.Codes.{is_of_checking}
 use Rattle.xs_top.proofs.Parts.{did_nothing, stopped_whole, stopped_here}

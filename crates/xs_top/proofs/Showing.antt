@@ -1,35 +1,31 @@
 -- What a scene that is shown has done; and what a whole run has, without its steps.
-use Rattle.std.proofs.Common.{◌≡◌, ℕ, ◌+◌, ◌-◌, true, false, List, [], ◌∷◌, ◌++◌, Option, Some, None, Result, Ok, inl, inr, refl, sym, ap, ◌∙◌, subst, Err}
-use Rattle.std.proofs.lemmas.List.{append-nil, append_cancel_left}
+use Rattle.std.proofs.Common.{◌≡◌, ℕ, ◌-◌, true, false, List, [], ◌∷◌, Option, Some, None, Result, Ok, inl, inr, refl, sym, ap, ◌∙◌, subst}
 use Rattle.serde_json.specs.Written.{compact_text}
 use Rattle.xs_fault.specs.declared.fault.SceneFault.{SceneFault}
 use Rattle.xs_outside.specs.Told.{more}
 use Rattle.xs_check.specs.Passes.{first_fault}
 use Rattle.xs_scene.specs.Records.{SceneRecord}
 use Rattle.xs_scene_json.specs.SceneData.{scene_data}
-use Rattle.xs_words.specs.declared.command.Command.{Command}
 use Rattle.xs_words.specs.declared.command.Command.TheVariants as command
-use Rattle.xs_words.specs.declared.fault.Usage.{Usage}
 use Rattle.xs_words.specs.Grammar.{reading_of}
 use Rattle.xs_top.specs.declared.status.Status.{Status}
 use Rattle.xs_top.specs.declared.status.Status.TheVariants as answers
-use Rattle.xs_top.specs.Trace.{Ask, Line, puts, lines, Outcome, ended, after, Contents, grown}
+use Rattle.xs_top.specs.Trace.{Ask, Line, puts, Outcome, ended, after, Contents, grown}
 use Rattle.xs_top.specs.Seen.{Seen}
 use Rattle.xs_top.specs.Causes.{answer_of, is_of_words}
 use Rattle.xs_top.specs.Words.{Heeds, answer_to, says_dry}
 use Rattle.xs_top.specs.Leaves.{Leaves, QuietUnless}
 use Rattle.xs_top.specs.Runs.{Runs, GainedFront, Undone, is_broken, IsRun}
-use Rattle.xs_top.specs.Files.{Files}
+use Rattle.xs_levels.specs.Films.{Files}
 use Rattle.xs_top.specs.Finished.{Says}
 use Rattle.xs_top.specs.Rendered.{IsShown}
 use Rattle.xs_top.specs.Ran.{RanScene, RanDryRun, LeftUndone, Ran}
-use Rattle.xs_top.specs.Outcome.{if_faultless, noting, rendered_line, closing, rendering, rendering_scene, showing, showing_scene, demanding, commanding, obeying, outcome}
+use Rattle.xs_top.specs.Outcome.{if_faultless, noting, showing, showing_scene, demanding, commanding, outcome}
 use Rattle.xs_top.proofs.Parts.{more-nothing}
 use Rattle.xs_top.proofs.Wholes.{result_run}
 use Rattle.xs_top.proofs.Commands.{command_obeyed}
 use Rattle.xs_top.proofs.Listings.{TakenOnce}
 use Rattle.xs_top.proofs.Finishing.{scene_through}
-use Rattle.xs_top.proofs.Endings.{Stays, scene_in, scene_loaded_in}
 use Rattle.xs_top.proofs.Fronts.{says_or_not}
 use Rattle.xs_top.proofs.Rendering.{checked_good, take_none, run_rows}
 use Rattle.xs_top.proofs.Demanding.{run_demand, is_demanding}
@@ -102,7 +98,7 @@ module _ (files : Files) (words : List (List ℕ)) (name : List ℕ) (reads : re
 
 -- ---- a whole run
 
-pub ran : TakenOnce → (words : List (List ℕ)) (before now : Seen) (result : Result (Unit {0}) Status)
+pub ran : {A : Type 0} → TakenOnce → (words : List (List ℕ)) (before now : Seen) (result : Result A Status)
     → ((files : Files) → before.files ≡ Some files → Runs (outcome files words) (λ _. ended answers.Ok) before now result)
     → Heeds (answer_to (reading_of words)) before now (answer_of result)
     → Leaves before now (answer_of result) → QuietUnless (says_dry (reading_of words)) before now (answer_of result)

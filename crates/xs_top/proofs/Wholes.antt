@@ -110,7 +110,7 @@ stopped_run all before now (answers.Level drawing code) did = whole_run all _ be
 stopped_run all before now (answers.Limit what limit) did = whole_run all _ before now refl did
 stopped_run all before now answers.NotYet did = whole_run all _ before now refl did
 
-pub result_run : (all : Outcome) (before now : Seen) (result : Result (Unit {0}) Status) → Runs all (λ _. ended answers.Ok) before now result
+pub result_run : {A : Type 0} (all : Outcome) (before now : Seen) (result : Result A Status) → Runs all (λ _. ended answers.Ok) before now result
     → IsRun all before now (answer_of result)
 result_run all before now (Ok done) did = whole_run all answers.Ok before now refl did
 result_run all before now (Err status) stopped = stopped_run all before now status stopped

@@ -1,4 +1,4 @@
-use Rattle.std.specs.Prelude.{◌≡◌, Bool, true, false, Result, Ok, Err}
+use Rattle.std.specs.Prelude.{◌≡◌, Bool, true, false, Result, Ok, Err, IfErr}
 use Rattle.xs_fault.specs.declared.code.SceneCode.{SceneCode}
 use Rattle.xs_fault.specs.declared.code.SceneCode.TheVariants as scene
 use Rattle.xs_rawfile.specs.declared.fault.LevelCode.{LevelCode}
@@ -10,6 +10,15 @@ use Rattle.xs_top.specs.declared.status.Status.TheVariants as answers
 abbrev pub answer_of : {A : Type 0} → Result A Status → Status
 answer_of (Ok value) = answers.Ok
 answer_of (Err status) = status
+
+-- whether all was done
+abbrev pub is_ok : Status → Bool
+is_ok answers.Ok = true
+is_ok status = false
+
+-- a part of a run that does not come through has an answer of its own
+abbrev pub Fails : {A : Type 0} → Result A Status → Type 0
+Fails result = IfErr result (λ status. is_ok status ≡ false)
 
 -- the codes of a file that is not there or too long
 abbrev pub is_lost_scene : SceneCode → Bool

@@ -5,9 +5,10 @@ use Rattle.xs_scene.specs.Records.{SceneRecord}
 use Rattle.xs_scene_json.specs.SceneText.{scene_of}
 use Rattle.xs_base.specs.Listed.{is_listed}
 use Rattle.xs_base.specs.declared.limits.TheConstants.{SCENE_LIMIT, DRAWING_LIMIT}
-use Rattle.xs_top.specs.Files.{Files}
+use Rattle.xs_levels.specs.Films.{Files}
+use Rattle.xs_levels.specs.Table.{raw_kind_of}
 use Rattle.xs_top.specs.Frames.{frame_at}
-use Rattle.xs_top.specs.Levels.{file_of, kind_of, raw_kind_of, pictures_of}
+use Rattle.xs_top.specs.Drawings.{file_of, kind_of, pictures_of}
 use Rattle.xs_meaning.specs.Expressions.{needed}
 
 -- a file of a library says this scene

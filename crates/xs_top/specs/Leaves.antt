@@ -46,3 +46,11 @@ pub record Keeps (before now : OutsideRecord) (answer : Status) : Type 0 where
   pub notes : now.seen.told.notes ≡ before.seen.told.notes
   pub words : is_of_words answer ≡ false
   pub same : now.names ≡ before.names
+
+-- of an outside at most the library was asked: nothing is written, and none of the three is another one
+pub record OnlyReads (before now : OutsideRecord) : Type 0 where
+  pub files : now.seen.files ≡ before.seen.files
+  pub shelf : now.seen.told.shelf ≡ before.seen.told.shelf
+  pub notes : now.seen.told.notes ≡ before.seen.told.notes
+  pub outputs : StandStill before.seen.faults now.seen.faults
+  pub same : now.names ≡ before.names

@@ -1,9 +1,10 @@
 pub mod Trace
-pub mod Files
 pub mod Runs
 pub mod Texts
 pub mod Frames
-pub mod Levels
+pub mod Drawings
+pub mod Loads
+pub mod Once
 pub mod Outcome
 pub mod Causes
 pub mod Finished

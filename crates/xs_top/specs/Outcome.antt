@@ -1,4 +1,4 @@
-use Rattle.std.specs.Prelude.{ℕ, ◌+◌, ◌-◌, List, [], ◌∷◌, ◌++◌, length, nat_le, if◌then◌else◌, codes, decimal, Option, None, Some, Result, Ok, Err}
+use Rattle.std.specs.Prelude.{ℕ, ◌+◌, List, [], ◌∷◌, ◌++◌, length, nat_le, if◌then◌else◌, codes, Option, None, Some, Result, Ok, Err}
 use Rattle.serde_json.specs.Written.{compact_text}
 use Rattle.xs_outside.specs.declared.object.Object.{Object}
 use Rattle.xs_fault.specs.declared.code.SceneCode.{SceneCode}
@@ -8,8 +8,6 @@ use Rattle.xs_scene.specs.Records.{SceneRecord}
 use Rattle.xs_scene_json.specs.SceneData.{scene_data}
 use Rattle.xs_scene_json.specs.SceneText.{scene_of}
 use Rattle.xs_rawfile.specs.declared.fault.LevelCode.{LevelCode}
-use Rattle.xs_rawfile.specs.declared.fault.LevelCode.TheVariants as level_code
-use Rattle.xs_rawfile.specs.Level.{first_fault}
 use Rattle.xs_pixel.specs.Picture.{Pictures}
 use Rattle.xs_base.specs.Once.{fresh}
 use Rattle.xs_check.specs.Passes.{first_fault as scene_fault}
@@ -19,16 +17,19 @@ use Rattle.xs_words.specs.declared.fault.Usage.{Usage}
 use Rattle.xs_words.specs.Grammar.{reading_of}
 use Rattle.xs_top.specs.declared.status.Status.{Status}
 use Rattle.xs_top.specs.declared.status.Status.TheVariants as answers
-use Rattle.xs_base.specs.declared.limits.TheConstants.{SCENE_LIMIT, DRAWING_LIMIT}
+use Rattle.xs_base.specs.declared.limits.TheConstants.{SCENE_LIMIT}
 use Rattle.xs_top.specs.Trace.{Ask, Place, Line, Outcome, ended, after}
-use Rattle.xs_top.specs.Files.{Files}
+use Rattle.xs_levels.specs.Films.{Files}
 use Rattle.xs_top.specs.Frames.{frame_at}
-use Rattle.xs_top.specs.Levels.{file_of, kind_of, raw_kind_of, pictures_of}
+use Rattle.xs_top.specs.Drawings.{file_of, pictures_of, fault_of, bytes_of, bytes_held_over}
+use Rattle.xs_top.specs.declared.limits.TheConstants.{MOST_SECTION_BYTES}
 use Rattle.xs_meaning.specs.Expressions.{needed}
 use Rattle.xs_base.specs.Sections.{sections_of}
+use Rattle.xs_plan.specs.Record.{PlanRecord}
 use Rattle.xs_demand.specs.Limits.{Limit}
+use Rattle.xs_dryrun.specs.declared.limits.What.TheVariants as what
 use Rattle.xs_dryrun.specs.Passing.{what_of, greatest_of}
-use Rattle.xs_top.specs.Demand.{limit_in, plan_in, demand_lines}
+use Rattle.xs_top.specs.Demand.{limit_in, plan_in, totals_line, demand_lines}
 
 -- ---- the steps of a run, each with what follows it
 
@@ -79,23 +80,32 @@ loading_scene files name next =
     asking files name SCENE_LIMIT (no_scene scene_code.NoScene) (no_scene scene_code.TooLong)
     (λ bytes. decoded (scene_of bytes) next)
 
+-- ---- the demand
+
+-- what follows where no limit is passed
+abbrev pub within_limits : Option Limit → Outcome → Outcome
+within_limits (Some limit) next = ended (answers.Limit (what_of limit) (greatest_of (what_of limit)))
+within_limits None next = next
+
 -- ---- the drawings
 
--- what follows the file of a drawing, where it has no fault
-abbrev pub accepted : ℕ → Option LevelCode → Outcome → Outcome
-accepted d (Some code) next = ended (answers.Level d code)
-accepted d None next = next
+-- what follows where no more bytes are held than a section may hold
+abbrev pub counted : ℕ → Outcome → Outcome
+counted bytes next =
+    if nat_le bytes MOST_SECTION_BYTES then next else ended (answers.Limit what.SectionBytes MOST_SECTION_BYTES)
 
--- a drawing is loaded
-unfoldable pub loading_drawing : Files → SceneRecord → ℕ → Outcome → Outcome
-loading_drawing files s d next =
-    asking files (file_of s d) DRAWING_LIMIT (answers.Level d level_code.Absent) (answers.Level d level_code.TooLong)
-    (λ bytes. accepted d (first_fault (raw_kind_of (kind_of s d)) bytes) next)
+-- what follows the file of a drawing, where it has no fault and its bytes may be held too
+abbrev pub accepted : ℕ → Option LevelCode → ℕ → Outcome → Outcome
+accepted d (Some code) bytes next = ended (answers.Level d code)
+accepted d None bytes next = counted bytes next
 
--- drawings are loaded in order
-unfoldable pub loading : Files → SceneRecord → List ℕ → Outcome → Outcome
-loading files s [] next = next
-loading files s (d ∷ ds) next = loading_drawing files s d (loading files s ds next)
+-- drawings are loaded in order, where so many bytes are held already: each is asked for, read and counted before the
+-- next
+unfoldable pub loading : Files → SceneRecord → ℕ → List ℕ → Outcome → Outcome
+loading files s over [] next = next
+loading files s over (d ∷ ds) next =
+    after (Ask (file_of s d) ∷ [])
+    (accepted d (fault_of files s d) (over + bytes_of files s d) (loading files s (over + bytes_of files s d) ds next))
 
 -- ---- the rows
 
@@ -105,33 +115,37 @@ placing_rows s pictures base [] next = next
 placing_rows s pictures base (row ∷ rows) next =
     placing (frame_at s pictures base row) (placing_rows s pictures base rows next)
 
--- a section: the drawings that its rows need and no earlier row needs are loaded, and then its frames are
--- put on the shelf
-unfoldable pub rendering_section : Files → SceneRecord → List ℕ → (earlier rows : List ℕ) → Outcome → Outcome
-rendering_section files s base earlier rows next =
-    loading files s (fresh (needed s earlier) (needed s rows))
+-- a section of the rows of a plan: over the drawings that are held from sections before it, those are loaded that its
+-- rows need and no earlier row needs, and then its frames are put on the shelf
+unfoldable pub rendering_section : Files → SceneRecord → List ℕ → PlanRecord → ℕ → (earlier rows : List ℕ) → Outcome → Outcome
+rendering_section files s base p section earlier rows next =
+    loading files s (bytes_held_over files s p section) (fresh (needed s earlier) (needed s rows))
     (placing_rows s (pictures_of files s) base rows next)
 
--- sections are rendered in order, after earlier rows
-unfoldable pub rendering_sections : Files → SceneRecord → List ℕ → List ℕ → List (List ℕ) → Outcome → Outcome
-rendering_sections files s base earlier [] next = next
-rendering_sections files s base earlier (rows ∷ sections) next =
-    rendering_section files s base earlier rows
-    (rendering_sections files s base (earlier ++ rows) sections next)
+-- sections are rendered in order, from one on and after earlier rows
+unfoldable pub rendering_sections : Files → SceneRecord → List ℕ → PlanRecord → ℕ → List ℕ → List (List ℕ) → Outcome → Outcome
+rendering_sections files s base p section earlier [] next = next
+rendering_sections files s base p section earlier (rows ∷ sections) next =
+    rendering_section files s base p section earlier rows
+    (rendering_sections files s base p (section + 1) (earlier ++ rows) sections next)
 
--- the line at the end of so many rows
-abbrev pub rendered_line : ℕ → List ℕ
-rendered_line rows = codes "rendered " ++ decimal rows ++ codes " rows"
+-- the line at the end of the rows of a plan
+abbrev pub rendered_line : PlanRecord → List ℕ
+rendered_line p = codes "rendered " ++ totals_line p
 
-unfoldable pub closing : ℕ → Outcome
-closing rows = noting (rendered_line rows) (ended answers.Ok)
+unfoldable pub closing : PlanRecord → Outcome
+closing p = noting (rendered_line p) (ended answers.Ok)
 
 -- ---- the commands
 
--- the rows of a scene are rendered
+-- the rows of a plan are rendered
+abbrev pub rendering_rows : Files → SceneRecord → ℕ → ℕ → List ℕ → PlanRecord → Outcome
+rendering_rows files s from to base p = rendering_sections files s base p 0 [] (sections_of from to) (closing p)
+
+-- the rows of a scene are rendered, where they pass no limit
 abbrev pub rendering_scene : Files → ℕ → ℕ → List ℕ → SceneRecord → Outcome
 rendering_scene files from to base s =
-    rendering_sections files s base [] (sections_of from to) (closing (to + 1 - from))
+    within_limits (limit_in s from to) (rendering_rows files s from to base (plan_in s from to))
 
 unfoldable pub rendering : Files → List ℕ → ℕ → ℕ → List ℕ → Outcome
 rendering files name from to base = loading_scene files name (rendering_scene files from to base)
@@ -142,11 +156,6 @@ showing_scene s = noting (compact_text (scene_data (record s { format = 2 }))) (
 
 unfoldable pub showing : Files → List ℕ → Outcome
 showing files name = loading_scene files name showing_scene
-
--- what follows where no limit is passed
-abbrev pub within_limits : Option Limit → Outcome → Outcome
-within_limits (Some limit) next = ended (answers.Limit (what_of limit) (greatest_of (what_of limit)))
-within_limits None next = next
 
 -- the demand of rows of a scene is written, line by line
 abbrev pub demanding_scene : ℕ → ℕ → SceneRecord → Outcome

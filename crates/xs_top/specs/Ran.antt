@@ -4,7 +4,7 @@ use Rattle.xs_words.specs.Grammar.{reading_of}
 use Rattle.xs_dryrun.specs.declared.limits.What.{What}
 use Rattle.xs_top.specs.declared.status.Status.{Status}
 use Rattle.xs_top.specs.declared.status.Status.TheVariants as answers
-use Rattle.xs_top.specs.Files.{Files}
+use Rattle.xs_levels.specs.Films.{Files}
 use Rattle.xs_top.specs.Seen.{Seen}
 use Rattle.xs_top.specs.Causes.{is_noting, is_of_words}
 use Rattle.xs_top.specs.Words.{Heeds, answer_to, says_dry}

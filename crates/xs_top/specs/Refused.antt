@@ -1,4 +1,4 @@
-use Rattle.std.specs.Prelude.{◌≡◌, ℕ, ◌<◌, ◌≤◌, List, ◌∷◌, ◌++◌, length, None, Some, true, false}
+use Rattle.std.specs.Prelude.{◌≡◌, ℕ, ◌<◌, ◌≤◌, List, length, None, Some, true, false}
 use Rattle.xs_outside.specs.declared.object.Object.{Object}
 use Rattle.xs_base.specs.Listed.{is_listed}
 use Rattle.xs_base.specs.Sections.{section_rows, sections_in, rows_before}
@@ -8,9 +8,10 @@ use Rattle.xs_rawfile.specs.Level.{first_fault}
 use Rattle.xs_rawfile.specs.declared.fault.LevelCode.{LevelCode}
 use Rattle.xs_rawfile.specs.declared.fault.LevelCode.TheVariants as level
 use Rattle.xs_scene.specs.Records.{SceneRecord}
-use Rattle.xs_top.specs.Files.{Files}
-use Rattle.xs_top.specs.Levels.{file_of, kind_of, raw_kind_of}
-use Rattle.xs_top.specs.Finished.{IsAccepted, frames_of}
+use Rattle.xs_levels.specs.Films.{Files}
+use Rattle.xs_levels.specs.Table.{raw_kind_of}
+use Rattle.xs_top.specs.Drawings.{file_of, kind_of}
+use Rattle.xs_top.specs.Finished.{frames_of}
 
 -- a file is longer than a scene may be
 abbrev pub IsTooLong : Files → List ℕ → Type 0
@@ -24,14 +25,6 @@ IsRefused files s d level.TooLong =
 IsRefused files s d code =
     (bytes : List ℕ) × (files (file_of s d) ≡ Some bytes) × (length bytes ≤ DRAWING_LIMIT)
     × (first_fault (raw_kind_of (kind_of s d)) bytes ≡ Some code)
-
--- of some drawings the first one whose file is refused, and with which code: each one before it is accepted
-pub record IsFirstRefused (files : Files) (s : SceneRecord) (drawings : List ℕ) (d : ℕ) (code : LevelCode) : Type 0 where
-  pub before : List ℕ
-  pub behind : List ℕ
-  pub place : drawings ≡ before ++ d ∷ behind
-  pub accepted : (e : ℕ) → is_listed before e ≡ true → IsAccepted files s e
-  pub refused : IsRefused files s d code
 
 -- the file of a drawing is asked for when exactly the frames of the sections before the first one that needs it
 -- stand on the shelf

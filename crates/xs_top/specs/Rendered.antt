@@ -1,4 +1,4 @@
-use Rattle.std.specs.Prelude.{◌≡◌, ℕ, ◌+◌, ◌-◌, ◌*◌, ◌<◌, pos, List, [], ◌∷◌, ◌++◌, length, slice_index_or, take, Option, None, Some, map}
+use Rattle.std.specs.Prelude.{◌≡◌, ℕ, ◌+◌, ◌*◌, ◌<◌, ◌≤◌, pos, All, List, [], ◌∷◌, ◌++◌, length, slice_index_or, take, Option, None, Some, map}
 use Rattle.std.specs.Option.{option_map}
 use Rattle.xs_outside.specs.declared.object.Object.{Object}
 use Rattle.serde_json.specs.Written.{compact_text}
@@ -14,8 +14,10 @@ use Rattle.xs_meaning.specs.RowValues.{row_of, camera_at, frame_of}
 use Rattle.xs_meaning.specs.Tables.{ColumnsFollow, NodesFollow, RowsFollow}
 use Rattle.xs_base.specs.Once.{each_once}
 use Rattle.xs_top.specs.Trace.{Contents}
-use Rattle.xs_top.specs.Files.{Files}
-use Rattle.xs_top.specs.Levels.{file_of}
+use Rattle.xs_levels.specs.Films.{Files}
+use Rattle.xs_top.specs.declared.limits.TheConstants.{MOST_SECTION_BYTES}
+use Rattle.xs_top.specs.Drawings.{file_of}
+use Rattle.xs_top.specs.Loads.{loads}
 use Rattle.xs_meaning.specs.Expressions.{needed}
 use Rattle.xs_base.specs.Sections.{rows_of}
 use Rattle.xs_top.specs.Finished.{Says, AreAccepted, frames_of}
@@ -27,17 +29,23 @@ use Rattle.xs_top.specs.Outcome.{rendered_line}
 
 -- ---- a render, without its steps
 
+-- rows keep the limits: those of their demand, and at each drawing that of the bytes that are held
+pub record AreWithin (files : Files) (s : SceneRecord) (from to : ℕ) : Type 0 where
+  pub demand : limit_in s from to ≡ None
+  pub sections : All (λ load. load.1 ≤ MOST_SECTION_BYTES) (loads files s from to)
+
 -- rows are rendered whole: the library was asked for a scene and then, once, for each drawing that its rows
--- need; the scene has no fault, and each of these drawings is there without a fault; the shelf gained exactly
--- the frames of the rows, in order; and one line tells how many they are
+-- need; the scene has no fault, its rows keep the limits, and each of these drawings is there without a fault; the
+-- shelf gained exactly the frames of the rows, in order; and one line tells how many rows, aliases and reads they are
 pub record IsRendered (files : Files) (name base : List ℕ) (from to : ℕ) (before now : Contents) : Type 0 where
   pub scene : SceneRecord
   pub says : Says files name scene
   pub faultless : first_fault scene ≡ None
+  pub within : AreWithin files scene from to
   pub accepted : AreAccepted files scene (rows_of from to)
   pub asked : now.asked ≡ more before.asked (name ∷ map (file_of scene) (each_once (needed scene (rows_of from to))))
   pub frames : now.shelf ≡ more before.shelf (frames_of files scene base (rows_of from to))
-  pub line : now.notes ≡ more before.notes (rendered_line (to + 1 - from) ++ 10 ∷ [])
+  pub line : now.notes ≡ more before.notes (rendered_line (plan_in scene from to) ++ 10 ∷ [])
 
 -- the shelf gained frames of the rows from the first on, and nothing else; where no file says a scene, nothing
 pub record GainedFrames (files : Files) (name base : List ℕ) (from to : ℕ) (before now : Option (List Object)) : Type 0 where

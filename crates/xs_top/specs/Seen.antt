@@ -2,7 +2,7 @@ use Rattle.std.specs.Prelude.{ℕ, List, Option}
 use Rattle.std.specs.Borrow.{GName}
 use Rattle.xs_outside.specs.declared.object.Object.{Object}
 use Rattle.xs_top.specs.Trace.{Contents}
-use Rattle.xs_top.specs.Files.{Files}
+use Rattle.xs_levels.specs.Films.{Files}
 
 -- how many faults a library, a shelf and notes had
 pub record Faults : Type 0 where

@@ -1,6 +1,6 @@
-ghost use Rattle.std.specs.Prelude.{◌≡◌, ◌≤◌, [], ◌∷◌, IfOk, Some, map, string_bytes, false};
+ghost use Rattle.std.specs.Prelude.{◌≡◌, [], All, IfOk, None, flat_map, length, map, string_bytes, false};
 ghost use Rattle.serde_json.specs.Written.{compact_text};
-ghost use Rattle.xs_base.specs.declared.limits.TheConstants.{LAST_ROW};
+ghost use Rattle.xs_base.specs.declared.limits.TheConstants.{MOST_WORKERS};
 ghost use Rattle.xs_scene_json.specs.SceneData.{scene_data};
 ghost use Rattle.xs_words.specs.Commands.{IsCommand};
 ghost use Rattle.xs_top.specs.Causes.{answer_of, is_of_words};
@@ -9,69 +9,31 @@ ghost use Rattle.xs_words.specs.Grammar.{reading_of};
 ghost use Rattle.xs_top.specs.Seen.{seen_of};
 ghost use Rattle.xs_top.specs.Leaves.{Leaves, Quiet, QuietUnless};
 ghost use Rattle.xs_top.specs.Runs.{Ends, Undone};
-ghost use Rattle.xs_top.specs.Writes.{Writes};
 ghost use Rattle.xs_top.specs.Ran.{Ran};
-ghost use Rattle.xs_top.specs.Outcome.{rendered_line, rendering, showing, commanding, outcome};
+ghost use Rattle.xs_top.specs.Outcome.{showing, commanding, outcome};
+ghost use Rattle.xs_top.specs.Once.{RendersOnce, RunsOnce, AreIdleFrom, workers_of, workers_in, closed_by};
 
 use crate::demand::demand;
 use crate::outside::{Borrows, Outside};
-use crate::render::render_rows;
+use crate::render::render;
 use crate::scene::load_scene;
 use crate::status::Status;
 use std::alloc::Global;
-use std::marker::Brand;
 use xs_base::Memory;
 use xs_base::laws::each_number_is_taken_once;
+use xs_bench::Bench;
 use xs_check::GoodScene;
 use xs_outside::{Library, Notes, Shelf};
 use xs_scene::Name;
 use xs_scene_json::encode;
+use xs_word_desk::Closed;
 use xs_words::{Command, read_words};
-
-/// The line at the end of so many rows.
-fn rendered_line(alloc: Global, rows: u32) -> Result<String, Memory>
-    ensures { IfOk result (λ line. string_bytes line ≡ rendered_line rows) }
-{
-    Ok(format!(in alloc; "rendered {rows} rows")?)
-}
 
 /// The one text of a scene in format 2.
 fn shown_line(alloc: Global, good: GoodScene) -> Result<Vec<u8>, Memory>
     ensures { IfOk result (λ line. line.items ≡ compact_text (scene_data (record good { format = 2 }))) }
 {
     encode(alloc, &good.into_scene().migrated())
-}
-
-/// Writes the line at the end of so many rows.
-fn note_rows<O: Outside>(alloc: Global, rows: u32, outside: &mut O) -> Result<(), Status>
-    ensures wrote { Writes (rendered_line rows ∷ []) (O.view outside.old).seen (O.view outside.new).seen result }
-    ensures leaves { Leaves (O.view outside.old).seen (O.view outside.new).seen (answer_of result) }
-    ensures same { (O.view outside.new).names ≡ (O.view outside.old).names }
-{
-    let line = rendered_line(alloc, rows)?;
-    outside.note(alloc, line.as_bytes())
-}
-
-/// Renders rows `from` to `to` of a scene.
-fn render<O: Outside>(
-    alloc: Global,
-    scene: &Name,
-    from: u32,
-    to: u32,
-    base: &Name,
-    outside: &mut O,
-) -> Result<(), Status>
-    requires range { from ≤ to }
-    requires last { to ≤ LAST_ROW }
-    ensures did { Ends (λ files. rendering files scene.now from to base.now) (O.view outside.old) (O.view outside.new) result }
-    ensures leaves { Leaves (O.view outside.old).seen (O.view outside.new).seen (answer_of result) }
-    ensures quiet { Quiet (O.view outside.old).seen (O.view outside.new).seen (answer_of result) }
-    ensures words { is_of_words (answer_of result) ≡ false }
-    ensures same { (O.view outside.new).names ≡ (O.view outside.old).names }
-{
-    let good = load_scene(alloc, scene, outside)?;
-    render_rows::<Brand, O>(alloc, &good, from, to, base, outside)?;
-    note_rows(alloc, to + 1 - from, outside)
 }
 
 /// Writes the one text of a scene in format 2.
@@ -87,15 +49,23 @@ fn show<O: Outside>(alloc: Global, scene: &Name, outside: &mut O) -> Result<(), 
     outside.note(alloc, line.as_slice())
 }
 
-/// Carries out a command.
-fn obey<O: Outside>(alloc: Global, command: &Command, outside: &mut O) -> Result<(), Status>
-    requires { IsCommand command.now }
+/// Carries out a command. Where rows were rendered, the closing record of their cache is answered.
+fn obey<O: Outside, B: Bench>(
+    alloc: Global,
+    command: &Command,
+    outside: &mut O,
+    bench: &mut B,
+) -> Result<Option<Closed>, Status>
+    requires command { IsCommand command.now }
+    requires unused { B.made bench.old ≡ [] }
     ensures did { Ends (λ files. commanding files command.now) (O.view outside.old) (O.view outside.new) result }
     ensures leaves { Leaves (O.view outside.old).seen (O.view outside.new).seen (answer_of result) }
     ensures quiet { QuietUnless (is_dry command.now) (O.view outside.old).seen (O.view outside.new).seen (answer_of result) }
     ensures undone { Undone (λ files. commanding files command.now) (O.view outside.old).seen (O.view outside.new).seen (answer_of result) }
     ensures heeds { Heeds (answer_to_command command.now) (O.view outside.old).seen (O.view outside.new).seen (answer_of result) }
     ensures same { (O.view outside.new).names ≡ (O.view outside.old).names }
+    ensures once { RendersOnce (O.view outside.old).seen.files command.now (B.made bench.new) (closed_by result) (answer_of result) }
+    ensures idle { workers_of command.now ≡ 0 → B.made bench.new ≡ [] }
 {
     match command {
         Command::Render {
@@ -104,25 +74,43 @@ fn obey<O: Outside>(alloc: Global, command: &Command, outside: &mut O) -> Result
             to,
             workers: _,
             base,
-        } => { render(alloc, scene, *from, *to, base, outside) }
-        Command::Show { scene } => show(alloc, scene, outside),
-        Command::Dry { scene, from, to } => demand(alloc, scene, *from, *to, outside),
+        } => {
+            let closed = render(alloc, scene, *from, *to, base, outside, bench)?;
+            Ok(Some(closed))
+        }
+        Command::Show { scene } => {
+            show(alloc, scene, outside)?;
+            Ok(None)
+        }
+        Command::Dry { scene, from, to } => {
+            demand(alloc, scene, *from, *to, outside)?;
+            Ok(None)
+        }
         Command::Make { .. } => Err(Status::NotYet),
         Command::Again { .. } => Err(Status::NotYet),
     }
 }
 
 /// Reads the words and carries out their command.
-fn try_run<O: Outside>(alloc: Global, words: &Vec<String>, outside: &mut O) -> Result<(), Status>
+fn try_run<O: Outside, B: Bench>(
+    alloc: Global,
+    words: &Vec<String>,
+    outside: &mut O,
+    bench: &mut B,
+) -> Result<Option<Closed>, Status>
+    requires unused { B.made bench.old ≡ [] }
     ensures did { Ends (λ files. outcome files (map string_bytes words.now.items)) (O.view outside.old) (O.view outside.new) result }
     ensures leaves { Leaves (O.view outside.old).seen (O.view outside.new).seen (answer_of result) }
     ensures quiet { QuietUnless (says_dry (reading_of (map string_bytes words.now.items))) (O.view outside.old).seen (O.view outside.new).seen (answer_of result) }
     ensures undone { Undone (λ files. outcome files (map string_bytes words.now.items)) (O.view outside.old).seen (O.view outside.new).seen (answer_of result) }
     ensures heeds { Heeds (answer_to (reading_of (map string_bytes words.now.items))) (O.view outside.old).seen (O.view outside.new).seen (answer_of result) }
     ensures same { (O.view outside.new).names ≡ (O.view outside.old).names }
+    ensures once { RunsOnce (O.view outside.old).seen.files (reading_of (map string_bytes words.now.items))
+        (B.made bench.new) (closed_by result) (answer_of result) }
+    ensures idle { workers_in (reading_of (map string_bytes words.now.items)) ≡ 0 → B.made bench.new ≡ [] }
 {
     let command = read_words(alloc, words.as_slice())?;
-    obey(alloc, &command, outside)
+    obey(alloc, &command, outside, bench)
 }
 
 /// The answer of a run: Ok where it came through.
@@ -137,18 +125,28 @@ pub(crate) fn answer(done: Result<(), Status>) -> Status
 
 /// Carries out the command that the words say, over this outside. Where the library tells its files, the
 /// answer, the names asked, the shelf and the notes are those of the outcome of the words over the files; a
-/// fault of the outside or want of memory leaves a front part of them.
-pub fn run<L: Library, S: Shelf, T: Notes>(
+/// fault of the outside or want of memory leaves a front part of them. The 64 benches have computed nothing yet;
+/// after a render that ended well they have computed each alias of its demand once, the ones from the number of
+/// workers on none, and `end` is the closing record of the cache.
+pub fn run<L: Library, S: Shelf, T: Notes, B: Bench>(
     alloc: Global,
     words: &Vec<String>,
     lib: &mut L,
     shelf: &mut S,
     notes: &mut T,
+    benches: &mut Vec<B>,
+    end: &mut Option<Closed>,
 ) -> Status
-    ensures { Ran (map string_bytes words.now.items)
+    requires benches { length benches.old.items ≡ MOST_WORKERS }
+    requires unused { All (λ bench. B.made bench ≡ []) benches.old.items }
+    requires open { end.old ≡ None }
+    ensures ran { Ran (map string_bytes words.now.items)
         (seen_of (L.files lib.old) (L.asked lib.old) (L.faults lib.old) (S.objects shelf.old) (S.faults shelf.old) (T.written notes.old) (T.faults notes.old))
         (seen_of (L.files lib.new) (L.asked lib.new) (L.faults lib.new) (S.objects shelf.new) (S.faults shelf.new) (T.written notes.new) (T.faults notes.new))
         result }
+    ensures once { RunsOnce (L.files lib.old) (reading_of (map string_bytes words.now.items))
+        (flat_map B.made benches.new.items) end.new result }
+    ensures idle { AreIdleFrom (workers_in (reading_of (map string_bytes words.now.items))) (map B.made benches.new.items) }
 {
     each_number_is_taken_once();
     let mut outside = Borrows {
@@ -156,7 +154,7 @@ pub fn run<L: Library, S: Shelf, T: Notes>(
         shelf,
         notes,
     };
-    let done = try_run(alloc, words, &mut outside);
+    let done = try_run(alloc, words, &mut outside, &mut benches[0]);
     let Borrows {
         library,
         shelf,
@@ -166,5 +164,11 @@ pub fn run<L: Library, S: Shelf, T: Notes>(
     let _library = library;
     let _shelf = shelf;
     let _notes = notes;
-    answer(done)
+    match done {
+        Ok(closed) => {
+            *end = closed;
+            Status::Ok
+        }
+        Err(status) => status,
+    }
 }

@@ -46,7 +46,7 @@ pub(crate) fn demand<O: Outside>(
 }
 
 /// How many rows, aliases and reads there are.
-fn totals_line(alloc: Global, plan: &Plan) -> Result<String, Memory>
+pub(crate) fn totals_line(alloc: Global, plan: &Plan) -> Result<String, Memory>
     ensures { IfOk result (λ line. string_bytes line ≡ totals_line plan.now) }
 {
     let (rows, aliases, reads) = (plan.rows(), plan.aliases(), plan.reads());

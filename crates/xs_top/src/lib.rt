@@ -4,6 +4,7 @@
 //! order, and its answer; the contract of `run` says what each answer has done of it.
 #![tactic(auto)]
 
+mod benches;
 mod calls;
 mod command;
 mod demand;
@@ -11,19 +12,21 @@ mod drawing_laws;
 mod frame_laws;
 mod frames;
 mod laws;
-mod levels;
+pub mod limits;
+mod loading;
 mod outside;
-mod palettes;
 mod render;
 mod scene;
 mod scene_laws;
 mod status;
 mod texts;
 
+pub use benches::lane_benches;
 pub use calls::dry;
 pub use command::run;
 pub use drawing_laws::{
-    drawings_are_asked_for_in_their_section, the_first_refused_drawing_is_told,
+    drawings_are_asked_for_in_their_section, the_drawings_of_rows_are_loaded_once,
+    the_first_drawing_past_the_limit_is_told, the_first_refused_drawing_is_told,
 };
 pub use frame_laws::{frames_have_names_of_their_own, sections_have_eight_rows};
 pub use laws::{

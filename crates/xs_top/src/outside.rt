@@ -1,17 +1,25 @@
-ghost use Rattle.std.specs.Prelude.{◌≡◌, true, [], ◌∷◌, List, ℕ, Some, IfOk};
-ghost use Rattle.xs_top.specs.Causes.{answer_of, is_lost};
+ghost use Rattle.std.specs.Prelude.{◌≡◌, ◌<◌, ◌≤◌, ◌+◌, true, [], ◌∷◌, List, ℕ, Some, IfOk, length};
+ghost use Rattle.xs_plan.specs.Sections.{sections_in};
+ghost use Rattle.xs_plan.specs.Needed.{new_drawings, held};
+ghost use Rattle.xs_levels.specs.Films.{film_of};
+ghost use Rattle.xs_levels.specs.Loading.{IsLoaded, StopsIn, AsksFor, HadFaults};
+ghost use Rattle.xs_levels.specs.Stocked.{IsStock, Holds};
+ghost use Rattle.xs_top.specs.Causes.{answer_of, is_lost, Fails};
 ghost use Rattle.xs_top.specs.Trace.{Outcome};
 ghost use Rattle.xs_top.specs.Seen.{OutsideRecord};
-ghost use Rattle.xs_top.specs.Leaves.{Keeps, Leaves};
+ghost use Rattle.xs_top.specs.Leaves.{Keeps, Leaves, OnlyReads};
 ghost use Rattle.xs_top.specs.Runs.{Runs, Gives};
 ghost use Rattle.xs_top.specs.Writes.{Writes};
-ghost use Rattle.xs_top.specs.Files.{Files};
+ghost use Rattle.xs_levels.specs.Films.{Files};
 ghost use Rattle.xs_top.specs.Outcome.{asking, placing};
 
 use crate::status::Status;
 use std::alloc::Global;
 use xs_base::List;
+use xs_levels::{FileTable, Loaded, Stock};
 use xs_outside::{Fetched, Library, Noted, Notes, Put, Shelf};
+use xs_pixel::Film;
+use xs_plan::Plan;
 
 /// The outside of a run: what it reads from and what it writes to.
 pub(crate) trait Outside {
@@ -31,20 +39,52 @@ pub(crate) trait Outside {
         requires too_long { is_lost too_long ≡ true }
         ensures did { Gives (λ files. asking files name.now limit absent too_long) (view self.old) (view self.new) result }
         ensures bytes { IfOk result (λ bytes. (files : Files) → (view self.old).seen.files ≡ Some files
-            → files name.now ≡ Some bytes) }
-        ensures keeps { Keeps (view self.old) (view self.new) (answer_of result) };
+            → (files name.now ≡ Some bytes) × (length bytes ≤ limit)) }
+        ensures keeps { Keeps (view self.old) (view self.new) (answer_of result) }
+        ensures fails { Fails result };
+
+    /// Loads into a stock the drawings of a table that a section is the first to need.
+    fn load<K: Film, F: FileTable>(
+        &mut self,
+        alloc: Global,
+        stock: &mut Stock<K>,
+        table: &F,
+        p: &Plan,
+        s: u32,
+    ) -> Loaded
+        requires section { s < sections_in p.now }
+        requires next { stock.old.loaded ≡ s }
+        requires ended { stock.old.ended ≡ s }
+        requires drawings { p.now.drawings ≤ length (F.told table.now).files }
+        requires stock { IsStock p.now (F.told table.now) stock.old }
+        requires film { K.pictures ≡ film_of (view self.old).seen.files (F.told table.now) }
+        ensures told { (files : Files) → (view self.old).seen.files ≡ Some files
+            → IsLoaded files (F.told table.now) stock.old.limit stock.old.bytes (new_drawings p.now s) result }
+        ensures place { StopsIn (new_drawings p.now s) result }
+        ensures asked { AsksFor (F.told table.now) (new_drawings p.now s)
+            (view self.old).seen.told.asked (view self.new).seen.told.asked result }
+        ensures faults { HadFaults (view self.old).seen.files
+            (view self.old).seen.faults.library (view self.new).seen.faults.library result }
+        ensures later { (view self.old).seen.faults.library ≤ (view self.new).seen.faults.library }
+        ensures reads { OnlyReads (view self.old) (view self.new) }
+        ensures stock { result ≡ Loaded.Done → IsStock p.now (F.told table.now) stock.new }
+        ensures sections { result ≡ Loaded.Done → (stock.new.loaded ≡ s + 1) × (stock.new.ended ≡ s) }
+        ensures holds { result ≡ Loaded.Done → Holds stock.new.held (held p.now s) }
+        ensures limit { result ≡ Loaded.Done → stock.new.limit ≡ stock.old.limit };
 
     /// Puts a finished file on the shelf.
     fn place(&mut self, alloc: Global, name: &str, bytes: &[u8]) -> Result<(), Status>
         ensures did { (next : Outcome) → Runs (placing (record { name = name.now; bytes = bytes.now }) next) (λ _. next)
             (view self.old).seen (view self.new).seen result }
-        ensures keeps { Keeps (view self.old) (view self.new) (answer_of result) };
+        ensures keeps { Keeps (view self.old) (view self.new) (answer_of result) }
+        ensures fails { Fails result };
 
     /// Writes a line, or several with an end between each two.
     fn note(&mut self, alloc: Global, line: &[u8]) -> Result<(), Status>
         ensures wrote { Writes (line.now ∷ []) (view self.old).seen (view self.new).seen result }
         ensures leaves { Leaves (view self.old).seen (view self.new).seen (answer_of result) }
-        ensures same { (view self.new).names ≡ (view self.old).names };
+        ensures same { (view self.new).names ≡ (view self.old).names }
+        ensures fails { Fails result };
 }
 
 /// A library, a shelf and notes that are borrowed for a run.
@@ -79,6 +119,17 @@ impl<L: Library, S: Shelf, T: Notes> Outside for Borrows<'_, '_, '_, L, S, T> {
             Fetched::Failed => Err(Status::ReadFault),
             Fetched::Memory => Err(Status::Memory),
         }
+    }
+
+    fn load<K: Film, F: FileTable>(
+        &mut self,
+        alloc: Global,
+        stock: &mut Stock<K>,
+        table: &F,
+        p: &Plan,
+        s: u32,
+    ) -> Loaded {
+        stock.load(alloc, self.library, table, p, s)
     }
 
     fn place(&mut self, alloc: Global, name: &str, bytes: &[u8]) -> Result<(), Status> {

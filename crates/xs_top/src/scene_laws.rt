@@ -1,7 +1,7 @@
 //! Laws of what is told of a scene's file.
 ghost use Rattle.std.specs.Prelude.{◌≡◌, ◌↔◌, ℕ, List, None};
 ghost use Rattle.xs_fault.specs.declared.code.SceneCode.TheVariants as scene_code;
-ghost use Rattle.xs_top.specs.Files.{Files};
+ghost use Rattle.xs_levels.specs.Films.{Files};
 ghost use Rattle.xs_top.specs.Refused.{IsTooLong};
 ghost use Rattle.xs_top.specs.Outcome.{no_scene, rendering, showing};
 

@@ -20,3 +20,6 @@ pub returns-in-Ok-clause-recorded : goal.returns-in-Ok-clause-recorded
 returns-in-Ok-clause-recorded g c = λ computed.
     recorded_still c.args.p.now (row_at c.args.s c.args.i) (g.D.Desk.view c.args.desk.now) (g.D.Desk.view c.advance.new.desk) computed
     c.in-Ok.ensures.serves
+
+pub returns-in-Ok-clause-home : goal.returns-in-Ok-clause-home
+returns-in-Ok-clause-home g c = c.in-Ok.ensures.serves.home

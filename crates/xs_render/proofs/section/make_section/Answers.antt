@@ -58,3 +58,6 @@ returns-clause-part g c =
     makes_part c.args.p.now (g.D.Desk.plan c.advance.new.desk) c.in_ok-worker.worker c.advance.new.self
     (g.D.Desk.view c.args.desk.now) (g.D.Desk.view c.advance.new.desk) (g.B.Bench.made c.args.bench.now) (g.B.Bench.made c.advance.new.bench)
     c.in-Err.ensures.plan c.look_over-in-Err.ensures c.in-Err.ensures.told
+
+pub returns-in-Ok-Finished-clause-home : goal.returns-in-Ok-Finished-clause-home
+returns-in-Ok-Finished-clause-home g c = (rw c.in-Ok-Finished.field-0-is at c.in-Ok-Finished.ensures.told).grew.adds.home

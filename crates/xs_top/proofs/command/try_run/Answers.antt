@@ -2,6 +2,7 @@ use Rattle.std.proofs.Common.{refl, map, string_bytes}
 use Rattle.xs_top.specs.Outcome.{outcome}
 use Rattle.std.proofs.lemmas.Result.{err_from_is_err_and}
 use Rattle.xs_top.proofs.Commands.{command_obeyed, words_stopped, words_leave, words_heeded, command_heeded, command_quiet, command_undone}
+use Rattle.xs_top.proofs.Computed.{nothing_once, words_fail, command_once, command_idle}
 use Rattle.xs_top.proofs.LastLines.{outcome_line, undone_quietly}
 use Rattle.xs_top.proofs.command.try_run.Goals as goal
 
@@ -39,3 +40,14 @@ returns-clause-quiet g c = command_quiet _ _ (g.O.Outside.view c.args.outside.no
 
 pub returns-clause-undone : goal.returns-clause-undone
 returns-clause-undone g c = command_undone _ _ (g.O.Outside.view c.args.outside.now).seen (g.O.Outside.view c.obey.new.outside).seen _ (rw c.as_slice.ensures.value at c.in_ok-command.ensures.reading) c.obey.ensures.undone
+
+pub returns-in_err-command-clause-once : goal.returns-in_err-command-clause-once
+returns-in_err-command-clause-once g c =
+    let p = err_from_is_err_and c.from_residual.result c.from_residual.ensures.1 in
+    rw (p.1, p.2) (nothing_once _ _ _ _ c.requires.unused (words_fail _))
+
+pub returns-clause-once : goal.returns-clause-once
+returns-clause-once g c = command_once _ _ _ _ _ _ (rw c.as_slice.ensures.value at c.in_ok-command.ensures.reading) c.obey.ensures.once
+
+pub returns-clause-idle : goal.returns-clause-idle
+returns-clause-idle g c = command_idle _ _ (rw c.as_slice.ensures.value at c.in_ok-command.ensures.reading) c.obey.ensures.idle

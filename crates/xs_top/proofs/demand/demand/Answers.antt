@@ -1,7 +1,5 @@
-use Rattle.std.proofs.Common.{refl, Err, ap}
+use Rattle.std.proofs.Common.{Err, ap}
 use Rattle.std.proofs.lemmas.Result.{err_from_is_err_and}
-use Rattle.xs_top.specs.declared.status.Status.TheVariants as answers
-use Rattle.xs_top.specs.Trace.{ended}
 use Rattle.xs_top.specs.Outcome.{demanding, demanding_scene}
 use Rattle.xs_top.proofs.Parts.{stopped_then, runs_then, leaves_then, quiet_then}
 use Rattle.xs_top.proofs.Writing.{writes_inside, writes_quiet}
@@ -31,7 +29,7 @@ returns-in_err-plan-clause-did g c = λ files e.
     let loaded = c.in_ok-good.ensures.did files e (demanding_scene c.args.from c.args.to) in
     rw (p.1, p.2)
     (stopped_then _ _ _ _ _ _ loaded c.in_ok-good.ensures.keeps.left
-    (plan_stopped c.in_ok-good.good c.args.from c.args.to (g.O.Outside.view c.load_scene.new.outside).seen c.in_err-plan.field-0.0 (λ what limit is. c.in_err-plan.ensures.limited what limit (ap Err is))))
+    (plan_stopped c.in_ok-good.good c.args.from c.args.to _ (g.O.Outside.view c.load_scene.new.outside).seen c.in_err-plan.field-0.0 (λ what limit is. c.in_err-plan.ensures.limited what limit (ap Err is))))
 
 pub returns-in_err-plan-clause-leaves : goal.returns-in_err-plan-clause-leaves
 returns-in_err-plan-clause-leaves g c =

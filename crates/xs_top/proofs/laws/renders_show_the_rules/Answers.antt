@@ -1,6 +1,6 @@
-use Rattle.xs_top.specs.Levels.{pictures_of}
+use Rattle.xs_levels.specs.Table.{table_of}
+use Rattle.xs_top.specs.Drawings.{pictures_of}
 use Rattle.xs_top.proofs.Drawn.{picture_is}
-use Rattle.xs_top.proofs.Sections.{pictures_hold}
 use Rattle.xs_top.proofs.laws.renders_show_the_rules.Goals as goal
 
 pub returns : goal.returns
@@ -13,7 +13,7 @@ returns c = record {
       let ends = faultless.ends s rendered.faultless in
       record {
         good = faultless.good s rendered.faultless (c.texts_say_scenes_in_range.ensures rendered.says.bytes s rendered.says.text);
-        pixels = pictures_hold c.files_without_fault_hold_drawings.ensures c.drawings_hold_pixels.ensures files s;
+        pixels = c.pictures_of_files_are_coloured_as_written.ensures.pixels files (table_of s);
         columns = tables.columns s pictures;
         nodes = tables.nodes s pictures ends;
         rows = tables.rows s pictures ends;

@@ -36,3 +36,8 @@ returns-clause-did g c = λ files e next.
     let asked = rw (c.refusal-absent.ensures, c.refusal-too_long.ensures, c.text.ensures.value) at c.in_ok-bytes.ensures.did files e (following next) in
     let read = rw c.items.ensures at c.in_ok-good.ensures.did next in
     rw (scene_asked files c.args.name.now next) (did_then asked (read (g.O.Outside.view c.ask.new.self).seen))
+
+pub returns-clause-says : goal.returns-clause-says
+returns-clause-says g c = λ files e.
+    let found = rw c.text.ensures.value at c.in_ok-bytes.ensures.bytes files e in
+    record { bytes = c.in_ok-bytes.bytes; there = found.0; short = found.1; text = rw c.items.ensures at c.in_ok-good.ensures.said }

@@ -26,3 +26,9 @@ returns-in_err-good-clause-inside c =
 pub returns-clause-did : goal.returns-clause-did
 returns-clause-did c = λ next seen.
     rw (c.in_ok-good.ensures.same) (rw (scene_read _ next _ c.in_ok-scene.ensures c.in_ok-good.ensures.checked) (did_nothing _ _))
+
+pub returns-clause-said : goal.returns-clause-said
+returns-clause-said c = rw c.in_ok-good.ensures.same c.in_ok-scene.ensures
+
+pub returns-clause-faultless : goal.returns-clause-faultless
+returns-clause-faultless c = rw c.in_ok-good.ensures.same c.in_ok-good.ensures.checked

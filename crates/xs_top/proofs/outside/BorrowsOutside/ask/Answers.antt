@@ -9,7 +9,7 @@ returns-in-Bytes-clause-did g c = rw c.of.ensures (λ files e next.
     asked_found _ _ _ next files _ _ _ _ (found_there _ _ _ next _ _ a.1 a.0) c.in-Bytes.ensures.asked)
 
 pub returns-in-Bytes-clause-bytes : goal.returns-in-Bytes-clause-bytes
-returns-in-Bytes-clause-bytes g c = rw c.of.ensures (λ files e. let a = rw e at c.in-Bytes.ensures.answer in a.1)
+returns-in-Bytes-clause-bytes g c = rw c.of.ensures (λ files e. let a = rw e at c.in-Bytes.ensures.answer in (a.1, a.0))
 
 pub returns-in-Absent-clause-did : goal.returns-in-Absent-clause-did
 returns-in-Absent-clause-did g c = λ files e next.

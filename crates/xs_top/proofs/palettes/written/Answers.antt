@@ -1,4 +1,0 @@
-use Rattle.xs_top.proofs.palettes.written.Goals as goal
-
-pub returns-in-Ok : goal.returns-in-Ok
-returns-in-Ok c = rw (← c.colours.view_is) (rw c.items.ensures at c.in-Ok.ensures.styles)
