@@ -1,4 +1,3 @@
 pub mod KeyLists
 pub mod Meaning
 pub mod Different
-pub mod LineLists

@@ -1,11 +1,10 @@
 //! Laws of numbers and their meanings.
 
-ghost use Rattle.std.specs.Prelude.{◌≡◌, ◌≢◌, ◌<◌, ◌∷◌, ◌++◌, ℕ, List, Some, AllPairs, length, take, slice_get};
+ghost use Rattle.std.specs.Prelude.{◌≡◌, ◌≢◌, ◌<◌, ◌++◌, ℕ, List, Some, AllPairs, length, slice_get};
 ghost use Rattle.xs_pixel.specs.Channels.{Channels};
 ghost use Rattle.xs_alias.specs.declared.key.Key.{Key};
 ghost use Rattle.xs_alias.specs.Meanings.{AreTinted, meaning, meanings, stands_for};
 ghost use Rattle.xs_alias.specs.Numbers.{IsNumbering, IsGiven};
-ghost use Rattle.xs_alias.specs.Lines.{IsFront, with_ends};
 
 /// A number means what its key stands for.
 pub fn numbers_mean_their_keys()
@@ -31,10 +30,4 @@ pub fn equal_expressions_have_equal_numbers()
         → AllPairs (λ s t. s ≢ t) tints → AreTinted (length tints) keys
         → (m n : ℕ) → m < length keys → n < length keys
         → meaning tints keys m ≡ meaning tints keys n → m ≡ n }
-{}
-
-/// A front part of lines is whole lines and a front part of the next: so it is where several are written at once.
-pub fn a_front_part_of_lines_ends_in_one_of_them()
-    ensures { (line : List ℕ) (lines : List (List ℕ)) (bytes : ℕ)
-        → IsFront (line ∷ lines) (take bytes (with_ends (line ∷ lines))) }
 {}

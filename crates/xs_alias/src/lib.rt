@@ -5,10 +5,6 @@
 mod interner;
 mod key;
 pub mod laws;
-mod line;
-mod lines;
 
 pub use interner::Interner;
 pub use key::Key;
-pub use line::alias_text;
-pub use lines::fill_lines;

@@ -1,6 +1,6 @@
 //! The tests of the libraries below checked scenes: values from outside which their clauses have to mean, what no
-//! clause says, and that each call succeeds where there is memory. Those of the libraries above stand in
-//! `xs_tests_top`: tests stand apart from the libraries, since a crate with tests is proved twice, and in two crates,
+//! clause says, and that each call succeeds where there is memory. Those of the libraries above, and of plans, stand
+//! in `xs_tests_top`: tests stand apart from the libraries, since a crate with tests is proved twice, and in two crates,
 //! since those of the lower libraries need not wait for the upper ones. Without its tests this crate is empty.
 #![tactic(auto)]
 
@@ -26,8 +26,6 @@ mod outside;
 mod palette;
 #[cfg(test)]
 mod pixel;
-#[cfg(test)]
-mod plan;
 #[cfg(test)]
 mod raster;
 #[cfg(test)]

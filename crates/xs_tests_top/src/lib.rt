@@ -1,6 +1,6 @@
-//! The tests of the libraries that stand on checked scenes, up to the whole run. They stand apart from those of the
-//! libraries below, so that these need not wait for the longest chain of crates. Without its tests this crate is
-//! empty.
+//! The tests of the libraries that stand on checked scenes, up to the whole run, and of plans and their lines. They
+//! stand apart from those of the libraries below, so that these need not wait for the longest chain of crates. Without
+//! its tests this crate is empty.
 #![tactic(auto)]
 
 #[cfg(test)]
@@ -11,6 +11,8 @@ mod direct;
 mod index;
 #[cfg(test)]
 mod needs;
+#[cfg(test)]
+mod plan;
 #[cfg(test)]
 mod scenes;
 #[cfg(test)]

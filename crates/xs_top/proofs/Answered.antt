@@ -5,7 +5,7 @@ use Rattle.std.proofs.lemmas.List.{append-nil}
 use Rattle.xs_outside.specs.declared.object.Object.{Object}
 use Rattle.xs_outside.specs.Told.{more}
 use Rattle.xs_top.specs.declared.status.Status.{Status}
-use Rattle.xs_alias.specs.Lines.{with_ends}
+use Rattle.xs_lines.specs.Lines.{with_ends}
 use Rattle.xs_top.specs.Writes.{with_bytes, WroteFront, WroteWhole}
 use Rattle.xs_top.specs.Trace.{Ask, Place, Outcome, ended, after, Contents, grown}
 use Rattle.xs_top.specs.Runs.{Did, StoppedAsking, StoppedPlacing}

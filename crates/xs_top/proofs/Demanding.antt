@@ -9,7 +9,7 @@ use Rattle.xs_scene.specs.Records.{SceneRecord}
 use Rattle.xs_check.specs.Good.{files_of}
 use Rattle.xs_check.specs.Passes.{first_fault}
 use Rattle.xs_plan.specs.Record.{PlanRecord}
-use Rattle.xs_alias.specs.Lines.{alias_line, with_ends}
+use Rattle.xs_lines.specs.Lines.{alias_line, with_ends}
 use Rattle.xs_demand.specs.Limits.{Limit}
 use Rattle.xs_demand.specs.Shown.{ShowsRoots, plan_of, tints_shown}
 use Rattle.xs_dryrun.specs.declared.limits.PlanFault.{PlanFault}

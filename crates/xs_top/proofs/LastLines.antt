@@ -7,7 +7,7 @@ use Rattle.xs_outside.specs.Told.{more}
 use Rattle.xs_scene.specs.Records.{SceneRecord}
 use Rattle.xs_scene_json.specs.SceneData.{scene_data}
 use Rattle.xs_demand.specs.Limits.{Limit}
-use Rattle.xs_alias.specs.Lines.{alias_lines}
+use Rattle.xs_lines.specs.Lines.{alias_lines}
 use Rattle.xs_top.specs.Demand.{limit_in, plan_in, totals_line}
 use Rattle.xs_words.specs.declared.command.Command.{Command}
 use Rattle.xs_words.specs.declared.command.Command.TheVariants as command

@@ -3,7 +3,7 @@ use Rattle.std.proofs.Common.{◌≡◌, ℕ, zero, suc, ◌+◌, ◌-◌, ◌<�
 use Rattle.std.specs.List.{range_with_len}
 use Rattle.std.proofs.lemmas.List.{map-append}
 use Rattle.xs_plan.specs.Record.{PlanRecord}
-use Rattle.xs_alias.specs.Lines.{alias_line, alias_lines, with_ends}
+use Rattle.xs_lines.specs.Lines.{alias_line, alias_lines, with_ends}
 use Rattle.xs_top.specs.declared.status.Status.{Status}
 use Rattle.xs_top.specs.declared.status.Status.TheVariants as answers
 use Rattle.xs_top.specs.Trace.{Contents}

@@ -4,7 +4,7 @@ use Rattle.std.proofs.lemmas.Bool.{false≢true}
 use Rattle.std.proofs.lemmas.List.{append-nil, append_cancel_left}
 use Rattle.std.proofs.lemmas.List.Concat.{flat_map-append}
 use Rattle.xs_outside.specs.Told.{Rose, more}
-use Rattle.xs_alias.specs.Lines.{with_ends, IsFront}
+use Rattle.xs_lines.specs.Lines.{with_ends, IsFront}
 use Rattle.xs_top.specs.declared.status.Status.{Status}
 use Rattle.xs_top.specs.declared.status.Status.TheVariants as answers
 use Rattle.xs_top.specs.Trace.{Event, Line, asks, puts, lines, Outcome, ended, after, Contents, grown}

@@ -10,7 +10,7 @@ use Rattle.xs_plan.specs.Record.{PlanRecord, rows_in}
 use Rattle.xs_plan.specs.Reads.{reads_in}
 use Rattle.xs_demand.specs.Limits.{Limit, first_limit}
 use Rattle.xs_demand.specs.Shown.{plan_of}
-use Rattle.xs_alias.specs.Lines.{alias_lines}
+use Rattle.xs_lines.specs.Lines.{alias_lines}
 
 -- how many rows, aliases and reads there are
 abbrev pub totals_line : PlanRecord → List ℕ

@@ -21,7 +21,7 @@ use Rattle.xs_top.specs.Loads.{loads}
 use Rattle.xs_meaning.specs.Expressions.{needed}
 use Rattle.xs_base.specs.Sections.{rows_of}
 use Rattle.xs_top.specs.Finished.{Says, AreAccepted, frames_of}
-use Rattle.xs_alias.specs.Lines.{with_ends}
+use Rattle.xs_lines.specs.Lines.{with_ends}
 use Rattle.xs_dryrun.specs.declared.limits.What.{What}
 use Rattle.xs_dryrun.specs.Passing.{what_of, greatest_of}
 use Rattle.xs_top.specs.Demand.{limit_in, plan_in, demand_lines}

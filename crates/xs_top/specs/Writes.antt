@@ -1,7 +1,7 @@
 -- What was written of some lines
 use Rattle.std.specs.Prelude.{◌≡◌, ◌⊎◌, ℕ, List, Result, MatchResult}
 use Rattle.xs_outside.specs.Told.{Rose, more}
-use Rattle.xs_alias.specs.Lines.{with_ends, IsFront}
+use Rattle.xs_lines.specs.Lines.{with_ends, IsFront}
 use Rattle.xs_top.specs.Trace.{Contents}
 use Rattle.xs_top.specs.Seen.{Seen}
 use Rattle.xs_top.specs.declared.status.Status.{Status}

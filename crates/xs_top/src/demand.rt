@@ -2,7 +2,7 @@
 
 ghost use Rattle.std.specs.Prelude.{◌≡◌, ◌<◌, ◌≤◌, ◌-◌, [], ◌∷◌, IfOk, MatchResult, length, string_bytes, true, false};
 ghost use Rattle.xs_base.specs.declared.limits.TheConstants.{LONGEST_SPAN};
-ghost use Rattle.xs_alias.specs.Lines.{alias_lines, with_ends};
+ghost use Rattle.xs_lines.specs.Lines.{alias_lines, with_ends};
 ghost use Rattle.xs_words.specs.Commands.{IsRange};
 ghost use Rattle.xs_top.specs.Causes.{answer_of, is_of_words};
 ghost use Rattle.xs_top.specs.Demand.{totals_line, demand_lines};
@@ -15,11 +15,11 @@ use crate::outside::Outside;
 use crate::scene::load_scene;
 use crate::status::Status;
 use std::alloc::Global;
-use xs_alias::fill_lines;
-use xs_alias::laws::a_front_part_of_lines_ends_in_one_of_them;
 use xs_base::Memory;
 use xs_demand::shown::a_shown_plan_is_the_plan;
 use xs_dryrun::plan;
+use xs_lines::fill_lines;
+use xs_lines::laws::a_front_part_of_lines_ends_in_one_of_them;
 use xs_plan::Plan;
 use xs_scene::Name;
 

@@ -1,5 +1,5 @@
 use Rattle.std.proofs.Common.{◌≡◌, ◌≤◌, ◌-◌}
-use Rattle.xs_alias.specs.Lines.{alias_lines, with_ends}
+use Rattle.xs_lines.specs.Lines.{alias_lines, with_ends}
 use Rattle.xs_top.specs.declared.status.Status.TheVariants as answers
 use Rattle.xs_top.specs.Leaves.{Leaves}
 use Rattle.xs_top.specs.Writes.{with_bytes}

@@ -1,6 +1,6 @@
 use Rattle.std.proofs.Common.{[], ◌∷◌, length, refl}
 use Rattle.std.proofs.lemmas.Result.{err_from_is_err_and}
-use Rattle.xs_alias.specs.Lines.{alias_lines}
+use Rattle.xs_lines.specs.Lines.{alias_lines}
 use Rattle.xs_top.specs.Demand.{totals_line}
 use Rattle.xs_top.proofs.Writing.{wants_more, writes_longer, writes_then}
 use Rattle.xs_top.proofs.demand.note_plan.Goals as goal

@@ -5,7 +5,7 @@ use Rattle.std.proofs.lemmas.List.{append-nil, take-append-le}
 use Rattle.std.proofs.Math.Seq.{take-append-add}
 use Rattle.std.proofs.lemmas.List.Concat.{flat_map-append}
 use Rattle.xs_plan.specs.Record.{PlanRecord}
-use Rattle.xs_alias.specs.Lines.{alias_line, alias_lines, with_ends, IsFront}
+use Rattle.xs_lines.specs.Lines.{alias_line, alias_lines, with_ends, IsFront}
 
 lines_more : (p : PlanRecord) (from n : ℕ) → alias_lines p from (n + 1) ≡ alias_lines p from n ++ alias_line p (from + n) ∷ []
 lines_more p from zero = ap (λ k. alias_line p k ∷ []) (let same : from ≡ from + 0 = omega arith in same)

@@ -1,6 +1,6 @@
 use Rattle.xs_plan.specs.Record.{entry_at}
 use Rattle.std.proofs.lemmas.Option.{unwrap_or-slice_get}
-use Rattle.xs_alias.proofs.line.input.Goals as goal
+use Rattle.xs_lines.proofs.line.input.Goals as goal
 
 -- src/line.rt:29:1
 pub returns : goal.returns

@@ -1,6 +1,6 @@
 -- No drawing is needed.
-use Rattle.xs_tests.proofs.SmallPlans.{needed-below_two}
-use Rattle.xs_tests.proofs.plan.bare.Goals as goal
+use Rattle.xs_tests_top.proofs.SmallPlans.{needed-below_two}
+use Rattle.xs_tests_top.proofs.plan.bare.Goals as goal
 
 pub finish-requires-clause-drawings : goal.finish-requires-clause-drawings
 finish-requires-clause-drawings c =

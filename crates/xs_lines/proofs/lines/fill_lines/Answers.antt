@@ -1,7 +1,7 @@
 use Rattle.std.proofs.Common.{◌≡◌, ◌+◌, ◌-◌, ◌++◌, ◌∷◌, [], ap, sym, ◌∙◌, arith}
-use Rattle.xs_alias.specs.Lines.{alias_line, alias_lines, with_ends}
-use Rattle.xs_alias.proofs.LineLists.{one_more_line}
-use Rattle.xs_alias.proofs.lines.fill_lines.Goals as goal
+use Rattle.xs_lines.specs.Lines.{alias_line, alias_lines, with_ends}
+use Rattle.xs_lines.proofs.LineLists.{one_more_line}
+use Rattle.xs_lines.proofs.lines.fill_lines.Goals as goal
 
 pub loop-next-preserved : goal.loop-next-preserved
 loop-next-preserved c =

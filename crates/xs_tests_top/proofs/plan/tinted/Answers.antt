@@ -1,7 +1,7 @@
 -- Drawing 0 alone is needed.
 use Rattle.std.proofs.Common.{lit<}
-use Rattle.xs_tests.proofs.SmallPlans.{needed-below_two}
-use Rattle.xs_tests.proofs.plan.tinted.Goals as goal
+use Rattle.xs_tests_top.proofs.SmallPlans.{needed-below_two}
+use Rattle.xs_tests_top.proofs.plan.tinted.Goals as goal
 
 pub finish-requires-clause-drawings : goal.finish-requires-clause-drawings
 finish-requires-clause-drawings c =

@@ -5,7 +5,7 @@ ghost use Rattle.std.specs.Fmt.{signed_decimal};
 ghost use Rattle.xs_scene_text.specs.SceneData.{op_word};
 ghost use Rattle.xs_plan.specs.Record.{entry_at};
 ghost use Rattle.xs_plan.specs.Values.{input_at};
-ghost use Rattle.xs_alias.specs.Lines.{alias_line, line_text, drawing_text, pixel_text, job_text, rect_text};
+ghost use Rattle.xs_lines.specs.Lines.{alias_line, line_text, drawing_text, pixel_text, job_text, rect_text};
 
 use itoa::Buffer;
 use std::alloc::Global;

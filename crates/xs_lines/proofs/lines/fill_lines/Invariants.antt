@@ -1,6 +1,6 @@
 use Rattle.std.proofs.Common.{◌≡◌, ◌<◌, ◌≤◌, ◌-◌, ◌++◌, ◌∷◌, []}
-use Rattle.xs_alias.specs.Lines.{alias_lines, with_ends}
-use Rattle.xs_alias.proofs.lines.fill_lines.Given as goal
+use Rattle.xs_lines.specs.Lines.{alias_lines, with_ends}
+use Rattle.xs_lines.proofs.lines.fill_lines.Given as goal
 
 abbrev pub invariant-loop-next : goal.invariant-loop-next
 invariant-loop-next l =

@@ -1,7 +1,7 @@
 //! Many lines of aliases at a time.
 
 ghost use Rattle.std.specs.Prelude.{◌≡◌, ◌<◌, ◌≤◌, ◌-◌, ◌++◌, ◌∷◌, [], IfOk, OnOk, length};
-ghost use Rattle.xs_alias.specs.Lines.{alias_line, alias_lines, with_ends};
+ghost use Rattle.xs_lines.specs.Lines.{alias_line, alias_lines, with_ends};
 
 use crate::line::push_alias;
 use xs_base::Memory;

@@ -1,7 +1,7 @@
 -- The second alias reads the first one. Drawing 0 alone is needed.
 use Rattle.std.proofs.Common.{lit<, refl, arith}
-use Rattle.xs_tests.proofs.SmallPlans.{needed-below_two, reaches-both}
-use Rattle.xs_tests.proofs.plan.squared.Goals as goal
+use Rattle.xs_tests_top.proofs.SmallPlans.{needed-below_two, reaches-both}
+use Rattle.xs_tests_top.proofs.plan.squared.Goals as goal
 
 pub root-requires-clause-reaches : goal.root-requires-clause-reaches
 root-requires-clause-reaches c =

@@ -1,0 +1,9 @@
+//! The printed lines of aliases, one or many at a time.
+#![tactic(auto)]
+
+pub mod laws;
+mod line;
+mod lines;
+
+pub use line::alias_text;
+pub use lines::fill_lines;
