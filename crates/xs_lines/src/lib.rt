@@ -1,6 +1,7 @@
 //! The printed lines of aliases, one or many at a time.
 #![tactic(auto)]
 
+mod buffer;
 pub mod laws;
 mod line;
 mod lines;

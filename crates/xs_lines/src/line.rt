@@ -1,13 +1,13 @@
 //! The printed line of an alias.
 
-ghost use Rattle.std.specs.Prelude.{◌≡◌, ◌<◌, ◌++◌, ◌∷◌, [], IfOk, OnOk, codes, decimal, length};
-ghost use Rattle.std.specs.Fmt.{signed_decimal};
+ghost use Rattle.std.specs.Prelude.{◌≡◌, ◌<◌, ◌≤◌, ◌+◌, ◌++◌, [], IfOk, codes, decimal, length};
 ghost use Rattle.xs_scene_text.specs.SceneData.{op_word};
 ghost use Rattle.xs_plan.specs.Record.{entry_at};
 ghost use Rattle.xs_plan.specs.Values.{input_at};
-ghost use Rattle.xs_lines.specs.Lines.{alias_line, line_text, drawing_text, pixel_text, job_text, rect_text};
+ghost use Rattle.xs_lines.specs.Lines.{alias_line, drawing_text, pixel_text, job_text, rect_text};
+ghost use Rattle.xs_lines.specs.Parts.{head_text, tail_text};
 
-use itoa::Buffer;
+use crate::buffer::{LONGEST_LINE, LineBuffer};
 use std::alloc::Global;
 use xs_base::Memory;
 use xs_pixel::{Op, Pixel};
@@ -15,30 +15,50 @@ use xs_plan::{Job, Plan};
 use xs_rect::Rect;
 use xs_scene_text::op_word;
 
+/// No tail of a line, which tells the rectangle and the readers, has more bytes.
+pub(crate) const LONGEST_TAIL: usize = 80;
+
+/// No job has more bytes.
+const LONGEST_JOB: usize = 60;
+
 /// The line of an alias without its end: `K: JOB; tile X Y W H; readers N`. A job is `clear`, `leaf D at DX DY`,
 /// `tinted D at DX DY by T`, `card R G B M`, the word of an operation with its two inputs, or `blur N A`.
 pub fn alias_text(alloc: Global, p: &Plan, k: u32) -> Result<Vec<u8>, Memory>
     requires { k < length p.now.entries }
     ensures { IfOk result (λ line. line.items ≡ alias_line p.now k) }
 {
-    let mut line = Vec::new(alloc);
-    push_alias(&mut line, p, k)?;
-    Ok(line)
+    let mut line = LineBuffer::new();
+    put_tail(&mut line, p, k);
+    put_head(&mut line, p, k);
+    let text = Vec::from_slice(alloc, line.bytes())?;
+    Ok(text)
 }
 
-#[tactic(auto, unfolding(crate::specs::Lines::alias_line))]
-/// Appends the line of an alias, without its end.
-pub(crate) fn push_alias(to: &mut Vec<u8>, p: &Plan, k: u32) -> Result<(), Memory>
-    requires { k < length p.now.entries }
-    ensures { OnOk result (to.new.items ≡ to.old.items ++ alias_line p.now k) }
+/// Puts the tail of the line of an alias: its rectangle, and how often it is read.
+#[tactic(auto, unfolding(crate::specs::Parts::tail_text))]
+pub(crate) fn put_tail(line: &mut LineBuffer, p: &Plan, k: u32)
+    requires there { k < length p.now.entries }
+    requires empty { line.old ≡ [] }
+    ensures text { line.new ≡ tail_text p.now k }
+    ensures len { length line.new ≤ LONGEST_TAIL }
 {
-    push_number(to, k)?;
-    push_text(to, ": ")?;
-    push_job(to, p.job(k), input(p, k, 0), input(p, k, 1))?;
-    push_text(to, "; tile ")?;
-    push_rect(to, p.rect(k))?;
-    push_text(to, "; readers ")?;
-    push_number(to, p.readers(k))
+    line.put_number(p.readers(k));
+    line.put_text("; readers ");
+    put_rect(line, p.rect(k));
+    line.put_text("; tile ");
+}
+
+/// Puts the head of the line of an alias, its number and its job, in front of a tail.
+#[tactic(auto, unfolding(crate::specs::Parts::head_text))]
+pub(crate) fn put_head(line: &mut LineBuffer, p: &Plan, k: u32)
+    requires there { k < length p.now.entries }
+    requires room { length line.old ≤ LONGEST_TAIL }
+    ensures text { line.new ≡ head_text p.now k ++ line.old }
+    ensures len { length line.new < LONGEST_LINE }
+{
+    put_job(line, p.job(k), input(p, k, 0), input(p, k, 1));
+    line.put_text(": ");
+    line.put_number(k);
 }
 
 /// The alias that an alias reads at a port, and 0 where it has none.
@@ -49,117 +69,115 @@ fn input(p: &Plan, k: u32, port: u32) -> u32
     p.input(k, port).unwrap_or(0)
 }
 
-/// Appends a job, with the numbers of the aliases that it reads at ports 0 and 1.
-fn push_job(to: &mut Vec<u8>, job: Job, first: u32, second: u32) -> Result<(), Memory>
-    ensures { OnOk result (to.new.items ≡ to.old.items ++ job_text job first second) }
+/// Puts a job, with the numbers of the aliases that it reads at ports 0 and 1.
+fn put_job(line: &mut LineBuffer, job: Job, first: u32, second: u32)
+    requires { LONGEST_JOB + length line.old ≤ LONGEST_LINE }
+    ensures text { line.new ≡ job_text job first second ++ line.old }
+    ensures len { length line.new ≤ LONGEST_JOB + length line.old }
 {
     match job {
-        Job::Clear => push_text(to, "clear"),
-        Job::Leaf { drawing, dx, dy } => push_leaf(to, drawing, dx, dy),
+        Job::Clear => line.put_text("clear"),
+        Job::Leaf { drawing, dx, dy } => put_leaf(line, drawing, dx, dy),
         Job::Tinted {
             drawing,
             dx,
             dy,
             tint,
-        } => push_tinted(to, drawing, dx, dy, tint),
-        Job::Card(pixel) => push_card(to, pixel),
-        Job::Pair(op) => push_pair(to, op, first, second),
-        Job::Blur(radius) => push_blur(to, radius, first),
+        } => put_tinted(line, drawing, dx, dy, tint),
+        Job::Card(pixel) => put_card(line, pixel),
+        Job::Pair(op) => put_pair(line, op, first, second),
+        Job::Blur(radius) => put_blur(line, radius, first),
     }
 }
 
-fn push_leaf(to: &mut Vec<u8>, drawing: u32, dx: i32, dy: i32) -> Result<(), Memory>
-    ensures { OnOk result (to.new.items ≡ to.old.items ++ (codes "leaf " ++ drawing_text drawing dx dy)) }
+fn put_leaf(line: &mut LineBuffer, drawing: u32, dx: i32, dy: i32)
+    requires { LONGEST_JOB + length line.old ≤ LONGEST_LINE }
+    ensures text { line.new ≡ (codes "leaf " ++ drawing_text drawing dx dy) ++ line.old }
+    ensures len { length line.new ≤ LONGEST_JOB + length line.old }
 {
-    push_text(to, "leaf ")?;
-    push_drawing(to, drawing, dx, dy)
+    put_drawing(line, drawing, dx, dy);
+    line.put_text("leaf ");
 }
 
-fn push_tinted(to: &mut Vec<u8>, drawing: u32, dx: i32, dy: i32, tint: u32) -> Result<(), Memory>
-    ensures { OnOk result (to.new.items
-        ≡ to.old.items ++ (codes "tinted " ++ drawing_text drawing dx dy ++ codes " by " ++ decimal tint)) }
+fn put_tinted(line: &mut LineBuffer, drawing: u32, dx: i32, dy: i32, tint: u32)
+    requires { LONGEST_JOB + length line.old ≤ LONGEST_LINE }
+    ensures text { line.new
+        ≡ (codes "tinted " ++ drawing_text drawing dx dy ++ codes " by " ++ decimal tint) ++ line.old }
+    ensures len { length line.new ≤ LONGEST_JOB + length line.old }
 {
-    push_text(to, "tinted ")?;
-    push_drawing(to, drawing, dx, dy)?;
-    push_text(to, " by ")?;
-    push_number(to, tint)
+    line.put_number(tint);
+    line.put_text(" by ");
+    put_drawing(line, drawing, dx, dy);
+    line.put_text("tinted ");
 }
 
-fn push_card(to: &mut Vec<u8>, pixel: Pixel) -> Result<(), Memory>
-    ensures { OnOk result (to.new.items ≡ to.old.items ++ (codes "card " ++ pixel_text pixel)) }
+fn put_card(line: &mut LineBuffer, pixel: Pixel)
+    requires { LONGEST_JOB + length line.old ≤ LONGEST_LINE }
+    ensures text { line.new ≡ (codes "card " ++ pixel_text pixel) ++ line.old }
+    ensures len { length line.new ≤ LONGEST_JOB + length line.old }
 {
-    push_text(to, "card ")?;
-    push_number(to, pixel.r() as u32)?;
-    push_next(to, pixel.g() as u32)?;
-    push_next(to, pixel.b() as u32)?;
-    push_next(to, pixel.m() as u32)
+    line.put_number(pixel.m() as u32);
+    put_before(line, pixel.b() as u32);
+    put_before(line, pixel.g() as u32);
+    put_before(line, pixel.r() as u32);
+    line.put_text("card ");
 }
 
-fn push_pair(to: &mut Vec<u8>, op: Op, first: u32, second: u32) -> Result<(), Memory>
-    ensures { OnOk result (to.new.items
-        ≡ to.old.items ++ (op_word op ++ codes " " ++ decimal first ++ codes " " ++ decimal second)) }
+fn put_pair(line: &mut LineBuffer, op: Op, first: u32, second: u32)
+    requires { LONGEST_JOB + length line.old ≤ LONGEST_LINE }
+    ensures text { line.new
+        ≡ (op_word op ++ codes " " ++ decimal first ++ codes " " ++ decimal second) ++ line.old }
+    ensures len { length line.new ≤ LONGEST_JOB + length line.old }
 {
-    push_text(to, op_word(op))?;
-    push_next(to, first)?;
-    push_next(to, second)
+    line.put_number(second);
+    put_before(line, first);
+    line.put_text(" ");
+    line.put_text(op_word(op));
 }
 
-fn push_blur(to: &mut Vec<u8>, radius: u32, input: u32) -> Result<(), Memory>
-    ensures { OnOk result (to.new.items ≡ to.old.items ++ (codes "blur " ++ decimal radius ++ codes " " ++ decimal input)) }
+fn put_blur(line: &mut LineBuffer, radius: u32, input: u32)
+    requires { LONGEST_JOB + length line.old ≤ LONGEST_LINE }
+    ensures text { line.new ≡ (codes "blur " ++ decimal radius ++ codes " " ++ decimal input) ++ line.old }
+    ensures len { length line.new ≤ LONGEST_JOB + length line.old }
 {
-    push_text(to, "blur ")?;
-    push_number(to, radius)?;
-    push_next(to, input)
+    line.put_number(input);
+    put_before(line, radius);
+    line.put_text("blur ");
 }
 
-/// Appends a drawing and its offset.
-fn push_drawing(to: &mut Vec<u8>, drawing: u32, dx: i32, dy: i32) -> Result<(), Memory>
-    ensures { OnOk result (to.new.items ≡ to.old.items ++ drawing_text drawing dx dy) }
+/// Puts a drawing and its offset.
+fn put_drawing(line: &mut LineBuffer, drawing: u32, dx: i32, dy: i32)
+    requires { 37 + length line.old ≤ LONGEST_LINE }
+    ensures text { line.new ≡ drawing_text drawing dx dy ++ line.old }
+    ensures len { length line.new ≤ 37 + length line.old }
 {
-    push_number(to, drawing)?;
-    push_text(to, " at ")?;
-    push_signed(to, dx)?;
-    push_text(to, " ")?;
-    push_signed(to, dy)
+    line.put_signed(dy);
+    line.put_text(" ");
+    line.put_signed(dx);
+    line.put_text(" at ");
+    line.put_number(drawing);
 }
 
-/// Appends a rectangle: its corner and its sides.
-fn push_rect(to: &mut Vec<u8>, rect: Rect) -> Result<(), Memory>
-    ensures { OnOk result (to.new.items ≡ to.old.items ++ rect_text rect) }
+/// Puts a rectangle: its corner and its sides.
+fn put_rect(line: &mut LineBuffer, rect: Rect)
+    requires { 45 + length line.old ≤ LONGEST_LINE }
+    ensures text { line.new ≡ rect_text rect ++ line.old }
+    ensures len { length line.new ≤ 45 + length line.old }
 {
-    push_signed(to, rect.x())?;
-    push_text(to, " ")?;
-    push_signed(to, rect.y())?;
-    push_next(to, rect.w())?;
-    push_next(to, rect.h())
+    line.put_number(rect.h());
+    put_before(line, rect.w());
+    line.put_text(" ");
+    line.put_signed(rect.y());
+    line.put_text(" ");
+    line.put_signed(rect.x());
 }
 
-/// Appends a space and a number.
-fn push_next(to: &mut Vec<u8>, n: u32) -> Result<(), Memory>
-    ensures { OnOk result (to.new.items ≡ to.old.items ++ (codes " " ++ decimal n)) }
+/// Puts a number and a space behind it.
+fn put_before(line: &mut LineBuffer, n: u32)
+    requires { 11 + length line.old ≤ LONGEST_LINE }
+    ensures text { line.new ≡ (decimal n ++ codes " ") ++ line.old }
+    ensures len { length line.new ≤ 11 + length line.old }
 {
-    push_text(to, " ")?;
-    push_number(to, n)
-}
-
-/// Appends a number.
-fn push_number(to: &mut Vec<u8>, n: u32) -> Result<(), Memory>
-    ensures { OnOk result (to.new.items ≡ to.old.items ++ decimal n) }
-{
-    push_text(to, Buffer::new().format(n))
-}
-
-/// Appends a number and its sign, if it is below 0.
-fn push_signed(to: &mut Vec<u8>, n: i32) -> Result<(), Memory>
-    ensures { OnOk result (to.new.items ≡ to.old.items ++ signed_decimal n) }
-{
-    push_text(to, Buffer::new().format(n))
-}
-
-/// Appends a text.
-fn push_text(to: &mut Vec<u8>, text: &str) -> Result<(), Memory>
-    ensures { OnOk result (to.new.items ≡ to.old.items ++ text.now) }
-{
-    to.extend_from_slice(text.as_bytes())?;
-    Ok(())
+    line.put_text(" ");
+    line.put_number(n);
 }
