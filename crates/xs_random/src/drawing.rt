@@ -1,4 +1,4 @@
-ghost use Rattle.std.specs.Prelude.{◌≤◌};
+ghost use Rattle.std.specs.Prelude.{◌<◌, ◌≤◌};
 
 use crate::failure::Failure;
 use crate::made::made;
@@ -9,7 +9,7 @@ use xs_rawfile::{Drawing, RawKind};
 
 /// A side of a drawing in pixels; in two of three cases no short one.
 fn side(random: &mut Random) -> u32
-    ensures { result ≤ 80 }
+    ensures { (0 < result) × (result ≤ 80) }
 {
     if random.one_in(3) {
         random.from_to(1, 80)
@@ -69,15 +69,21 @@ fn bytes(
     Ok(bytes)
 }
 
-/// The place of the corner of a drawing along an axis, from 50 pixels before the origin to 10 behind it.
-fn corner(random: &mut Random) -> i32 {
-    random.below(61) as i32 - 50
+/// The place of the corner of a drawing with this side along an axis. In four of five cases the origin is in its box.
+fn corner(random: &mut Random, side: u32) -> i32
+    requires { (0 < side) × (side ≤ 80) }
+{
+    if random.one_in(5) {
+        random.place()
+    } else {
+        -(random.below(side) as i32)
+    }
 }
 
 /// A drawing with a box of at most 80 by 80 pixels near the origin.
 pub fn drawing(alloc: Global, random: &mut Random, kind: RawKind) -> Result<Drawing, Failure> {
     let (w, h) = (side(random), side(random));
-    let (x0, y0) = (corner(random), corner(random));
+    let (x0, y0) = (corner(random, w), corner(random, h));
     let bytes = bytes(alloc, random, kind, w * h)?;
     made(Drawing::new(x0, y0, w, h, kind, List::of(bytes)))
 }

@@ -65,9 +65,9 @@ impl Random {
         }
     }
 
-    /// A place along an axis within 50 pixels of the origin, and in three of four cases within 15.
+    /// A place along an axis within 50 pixels of the origin, and in five of six cases within 15.
     pub fn place(&mut self) -> i32 {
-        if self.one_in(4) {
+        if self.one_in(6) {
             self.below(101) as i32 - 50
         } else {
             self.below(31) as i32 - 15

@@ -10,13 +10,13 @@ use std::alloc::Global;
 use xs_base::List;
 use xs_scene::{Camera, Scene, Sheet};
 
-/// A side of a camera in pixels, at most this one; in four of five cases a short one.
+/// A side of a camera in pixels, at most this one; in every second case a short one.
 fn side(random: &mut Random, longest: u8) -> u32 {
     let longest = u32::from(longest).max(1);
-    if random.one_in(5) {
+    if random.one_in(2) {
         random.from_to(1, longest)
     } else {
-        random.from_to(1, longest.min(30))
+        random.from_to(1, longest.min(40))
     }
 }
 
