@@ -10,6 +10,8 @@ mod direct;
 #[cfg(test)]
 mod index;
 #[cfg(test)]
+mod making;
+#[cfg(test)]
 mod needs;
 #[cfg(test)]
 mod plan;

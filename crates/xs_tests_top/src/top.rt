@@ -60,7 +60,7 @@ fn rendered(alloc: Global, fails: &[u64]) -> Result<(u8, MemShelf, MemNotes), Fa
 }
 
 /// Benches that compute point by point.
-fn plain_benches(alloc: Global) -> Result<Vec<PlainBench>, Memory>
+pub(crate) fn plain_benches(alloc: Global) -> Result<Vec<PlainBench>, Memory>
     ensures count { IfOk result (λ benches. length benches.items ≡ MOST_WORKERS) }
     ensures unused { IfOk result (λ benches. All (λ bench. ⟦<PlainBench as Bench>⟧.made bench ≡ []) benches.items) }
 {
@@ -126,7 +126,7 @@ fn the_first_bench_computes_each_alias_and_the_cache_is_left_empty(
 }
 
 #[test]
-fn plain_benches_render_the_same_frames(rt: HostRuntime) -> Result<(), Fail> {
+pub(crate) fn plain_benches_render_the_same_frames(rt: HostRuntime) -> Result<(), Fail> {
     let (_status, fast, _notes) = rendered(rt.alloc(), &[])?;
     let mut benches = plain_benches(rt.alloc())?;
     let (status, plain, _notes) = rendered_by(rt.alloc(), &[], &mut benches, &mut None)?;

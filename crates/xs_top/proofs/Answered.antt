@@ -7,7 +7,7 @@ use Rattle.xs_outside.specs.Told.{more}
 use Rattle.xs_top.specs.declared.status.Status.{Status}
 use Rattle.xs_lines.specs.Lines.{with_ends}
 use Rattle.xs_top.specs.Writes.{with_bytes, WroteFront, WroteWhole}
-use Rattle.xs_top.specs.Trace.{Ask, Place, Outcome, ended, after, Contents, grown}
+use Rattle.xs_top.specs.Trace.{Ask, Place, Outcome, ended, after, Contents, grown, summed}
 use Rattle.xs_top.specs.Runs.{Did, StoppedAsking, StoppedPlacing}
 use Rattle.xs_levels.specs.Films.{Files}
 use Rattle.xs_top.specs.Outcome.{found, asking, placing}
@@ -53,10 +53,11 @@ module _ (limit : ℕ) (absent too_long : Status) (next : List ℕ → Outcome) 
 -- ---- a file is put on the shelf
 
 module _ (object : Object) (next : Outcome) (seen : Contents) (now : Option (List Object)) where
-  pub placed_done : now ≡ more seen.shelf (object ∷ []) → Did (placing object next) next seen (record seen { shelf = now })
+  pub placed_done : now ≡ more seen.shelf (object ∷ [])
+      → Did (placing object next) next seen (record seen { shelf = now; sum = summed seen.sum (object ∷ []) })
   unfolding placing
   placed_done e =
-      let tells : Option (List Object) → Contents = λ shelf. record seen { shelf = shelf } in
+      let tells : Option (List Object) → Contents = λ shelf. record seen { shelf = shelf; sum = summed seen.sum (object ∷ []) } in
       record { done = Place object ∷ []; split = refl; told = simp more-nothing (ap tells e) }
 
   pub placed_failed : now ≡ seen.shelf → StoppedPlacing (placing object next) seen (record seen { shelf = now })

@@ -19,7 +19,7 @@ use Rattle.xs_top.specs.declared.status.Status.TheVariants as answers
 use Rattle.xs_plan.specs.Record.{PlanRecord}
 use Rattle.xs_demand.specs.Limits.{Limit}
 use Rattle.xs_dryrun.specs.declared.limits.What.TheVariants as what
-use Rattle.xs_base.specs.Sections.{section_rows, sections_in, rows_before}
+use Rattle.xs_base.specs.Sections.{sections_of, section_rows, sections_in, rows_before}
 use Rattle.xs_top.specs.Finished.{Says, frames_of}
 use Rattle.xs_top.specs.Refused.{IsAskedBehind}
 use Rattle.xs_base.specs.Listed.{is_listed}
@@ -29,7 +29,7 @@ use Rattle.xs_top.proofs.Listings.{fresh_new}
 use Rattle.xs_top.proofs.Scenes.{scene_asked}
 use Rattle.std.proofs.Math.Bool.{or-true}
 use Rattle.std.proofs.lemmas.Bool.Decides.{nat_tests}
-use Rattle.xs_top.specs.Outcome.{asking, placing, noting, if_faultless, within_limits, counted, accepted, loading, placing_rows, rendering_sections, closing, rendering_rows, rendering_scene, rendering}
+use Rattle.xs_top.specs.Outcome.{asking, placing, noting, if_faultless, within_limits, counted, accepted, loading, placing_rows, rendering_sections, closing, rendering_scene, rendering}
 use Rattle.xs_top.proofs.Drawn.{loading_none, loading_first}
 use Rattle.xs_top.proofs.Placed.{placing_none, placing_first}
 use Rattle.xs_top.proofs.Sections.{section_is, sections_first, sections_none, sections_are, rows_before_more}
@@ -171,7 +171,7 @@ module _ (files : Files) (s : SceneRecord) (base : List ℕ) (from to : ℕ) whe
   at_scene : AtAsks (Behind 0) (rendering_scene files from to base s)
   at_scene =
       let p = plan_in s from to in
-      at_within (Behind 0) (limit_in s from to) (rendering_rows files s from to base p)
+      at_within (Behind 0) (limit_in s from to) (rendering_sections files s base p 0 [] (sections_of from to) (closing p))
       (rw (sections_are from to) (at_sections p (sections_in from to) 0 (closing p) (omega arith) (at_closing p)))
 
   pub asked_behind_sections : (name : List ℕ) → Says files name s → (done rest : List Event) (asked : List ℕ)

@@ -4,8 +4,9 @@ use Rattle.std.proofs.lemmas.Bool.{false≢true}
 use Rattle.xs_top.specs.declared.status.Status.{Status}
 use Rattle.xs_top.specs.declared.status.Status.TheVariants as answers
 use Rattle.xs_top.specs.Causes.{is_of_words}
-use Rattle.xs_top.specs.Words.{Heeds, answer_to, answer_to_command, is_dry, says_dry}
+use Rattle.xs_top.specs.Words.{Heeds, answer_to, answer_to_command, is_dry, is_make, says_dry}
 use Rattle.xs_words.specs.declared.command.Command.{Command}
+use Rattle.xs_words.specs.declared.command.Command.TheVariants as command
 use Rattle.xs_words.specs.declared.fault.WordsFault.{WordsFault}
 use Rattle.xs_words.specs.declared.fault.WordsFault.TheVariants as words_fault
 use Rattle.xs_words.specs.Grammar.{reading_of, Reads}
@@ -41,6 +42,13 @@ words_heeded words seen words_fault.Memory e = record { refused = λ status is. 
 pub command_heeded : (words : List (List ℕ)) (command : Command) (before now : Seen) (answer : Status) → reading_of words ≡ Ok command
     → Heeds (answer_to_command command) before now answer → Heeds (answer_to (reading_of words)) before now answer
 command_heeded words command before now answer e heeds = rw e heeds
+
+pub not_made : (said : Command) → ((seed rows workers : ℕ) → said ≡ command.Make seed rows workers → ⊥) → is_make said ≡ false
+not_made (command.Make seed rows workers) other = absurd (other seed rows workers refl)
+not_made (command.Render scene from to workers base) other = refl
+not_made (command.Dry scene from to) other = refl
+not_made (command.Show scene) other = refl
+not_made (command.Again old new from to workers base) other = refl
 
 -- a command that is built is carried out
 pub built_heeded : (before now : Seen) (answer : Status) → is_of_words answer ≡ false → Heeds None before now answer

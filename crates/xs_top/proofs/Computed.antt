@@ -4,6 +4,7 @@ use Rattle.std.proofs.lemmas.List.{append-nil}
 use Rattle.std.proofs.lemmas.List.Elements.{All-head, All-tail}
 use Rattle.xs_base.specs.declared.limits.TheConstants.{MOST_WORKERS}
 use Rattle.xs_levels.specs.Films.{Files}
+use Rattle.xs_make.specs.Scenes.{scene_from}
 use Rattle.xs_word_desk.specs.declared.closing.Closed.{Closed}
 use Rattle.xs_words.specs.declared.command.Command.{Command}
 use Rattle.xs_words.specs.declared.command.Command.TheVariants as command
@@ -14,7 +15,7 @@ use Rattle.xs_words.specs.declared.fault.Usage.{Usage}
 use Rattle.xs_words.specs.declared.fault.WordsFault.{WordsFault}
 use Rattle.xs_words.specs.declared.fault.WordsFault.TheVariants as words_fault
 use Rattle.xs_top.specs.Texts.{words_status}
-use Rattle.xs_top.specs.Once.{ComputedOnce, RendersOnce, RunsOnce, AreIdleFrom, NoneTwice, workers_of, workers_in}
+use Rattle.xs_top.specs.Once.{ComputedRows, ComputedOnce, GeneratedOnce, RenderedOnce, RendersOnce, RunsOnce, AreIdleFrom, NoneTwice, workers_of, workers_in}
 use Rattle.xs_top.proofs.Progressing.{recorded_none}
 
 -- where all benches but the first have computed nothing, what all computed is what the first did
@@ -61,6 +62,7 @@ rendered_once files name base from to workers computed closed once twice = recor
       let same_from : from ≡ first = cc in
       let same_to : to ≡ last = cc in
       (closed, refl, rw (← same, ← same_from, ← same_to) once);
+  made = λ seed rows other is ends. absurd cc;
   shown = λ scene is. absurd cc;
   dry = λ scene first last is. absurd cc;
   failed = λ ends. absurd cc;
@@ -71,9 +73,54 @@ pub rendered_not : (files : Option Files) (said : Command) (computed : List ℕ)
     → RendersOnce files said computed None answer
 rendered_not files said computed answer fails twice = record {
   rendered = λ scene base from to workers is ends. absurd (let same : is_ok answer ≡ true = ap is_ok ends in cc);
+  made = λ seed rows workers is ends. absurd (let same : is_ok answer ≡ true = ap is_ok ends in cc);
   shown = λ scene is. refl;
   dry = λ scene from to is. refl;
   failed = λ ends. refl;
+  twice = twice;
+}
+
+-- a render alone
+pub alone_once : (files : Option Files) (name : List ℕ) (from to : ℕ) (computed : List ℕ) (closed : Closed)
+    → ComputedOnce files name from to computed closed → NoneTwice computed
+    → RenderedOnce files name from to computed (Some closed) answers.Ok
+alone_once files name from to computed closed once twice =
+    record { whole = λ ends. (closed, refl, once); failed = λ fails. absurd cc; twice = twice }
+
+pub alone_not : (files : Option Files) (name : List ℕ) (from to : ℕ) (computed : List ℕ) (end : Option Closed) (answer : Status)
+    → end ≡ None → is_ok answer ≡ false → NoneTwice computed → RenderedOnce files name from to computed end answer
+alone_not files name from to computed end answer none fails twice = record {
+  whole = λ ends. absurd (let same : is_ok answer ≡ true = ap is_ok ends in cc);
+  failed = λ _. none;
+  twice = twice;
+}
+
+-- a generated scene
+pub making_once : (files : Option Files) (seed rows workers : ℕ) (computed : List ℕ) (closed : Closed)
+    → ComputedRows (scene_from seed rows) 1 rows computed closed → NoneTwice computed
+    → RendersOnce files (command.Make seed rows workers) computed (Some closed) answers.Ok
+making_once files seed rows workers computed closed once twice = record {
+  rendered = λ scene base from to other is ends. absurd cc;
+  made = λ first many other is ends.
+      let same : seed ≡ first = cc in
+      let count : rows ≡ many = cc in
+      (closed, refl, rw (← same, ← count) once);
+  shown = λ scene is. absurd cc;
+  dry = λ scene from to is. absurd cc;
+  failed = λ ends. absurd cc;
+  twice = twice;
+}
+
+-- it alone
+pub alone_made : (seed rows : ℕ) (computed : List ℕ) (closed : Closed) → ComputedRows (scene_from seed rows) 1 rows computed closed
+    → NoneTwice computed → GeneratedOnce seed rows computed (Some closed) answers.Ok
+alone_made seed rows computed closed once twice = record { whole = λ ends. (closed, refl, once); failed = λ fails. absurd cc; twice = twice }
+
+pub alone_made_not : (seed rows : ℕ) (computed : List ℕ) (end : Option Closed) (answer : Status) → end ≡ None → is_ok answer ≡ false
+    → NoneTwice computed → GeneratedOnce seed rows computed end answer
+alone_made_not seed rows computed end answer none fails twice = record {
+  whole = λ ends. absurd (let same : is_ok answer ≡ true = ap is_ok ends in cc);
+  failed = λ _. none;
   twice = twice;
 }
 

@@ -35,7 +35,7 @@ use Rattle.xs_top.specs.Ran.{RanDemand}
 use Rattle.xs_top.specs.Outcome.{if_faultless, noting_lines, within_limits, closing, rendering_section, rendering_sections, rendering_rows, rendering_scene, demanding_scene, demanding, commanding, outcome}
 use Rattle.xs_render.specs.Computed.{HasEachOnce}
 use Rattle.xs_word_desk.specs.declared.closing.Closed.{Closed}
-use Rattle.xs_top.specs.Once.{ComputedOnce, IsClosedOf}
+use Rattle.xs_top.specs.Once.{ComputedRows, ComputedOnce, IsClosedOf}
 use Rattle.xs_top.specs.Drawings.{bytes_held_over}
 use Rattle.xs_plan.specs.Needed.{last_section_of}
 use Rattle.xs_pixel.specs.Channels.{Channels}
@@ -49,9 +49,15 @@ use Rattle.xs_top.proofs.Rendering.{checked_good, take_none}
 
 -- ---- the plan that is made, and the limit that is told
 
-abbrev PlanLaw : Type 0
+abbrev pub PlanLaw : Type 0
 PlanLaw = (tiles : List _) (roots : List _) (p : PlanRecord) → ShowsRoots tiles roots p
     → record p { tints = tints_shown p } ≡ plan_of tiles roots p.drawings
+
+-- the plan that is made is the plan of the rows, but for how it tells its tints
+pub plan_shown : PlanLaw → (s : SceneRecord) (from to : ℕ) (p : PlanRecord) → ShowsRoots (tiles_of s) (roots_in s from to) p
+    → p.drawings ≡ length (files_of s.levels) → record p { tints = tints_shown p } ≡ plan_in s from to
+plan_shown law s from to p shows drawings =
+    law (tiles_of s) (roots_in s from to) p shows ∙ ap (plan_of (tiles_of s) (roots_in s from to)) drawings
 
 tints_apart : (p q : PlanRecord) → record p { tints = tints_shown p } ≡ q → demand_lines p ≡ demand_lines q
 unfolding alias_line
@@ -60,8 +66,7 @@ tints_apart p q same = ap demand_lines same
 -- a plan that shows the rows has their lines
 pub lines_shown : PlanLaw → (s : SceneRecord) (from to : ℕ) (p : PlanRecord) → ShowsRoots (tiles_of s) (roots_in s from to) p
     → p.drawings ≡ length (files_of s.levels) → demand_lines p ≡ demand_lines (plan_in s from to)
-lines_shown law s from to p shows drawings =
-    tints_apart p _ (law (tiles_of s) (roots_in s from to) p shows ∙ ap (plan_of (tiles_of s) (roots_in s from to)) drawings)
+lines_shown law s from to p shows drawings = tints_apart p _ (plan_shown law s from to p shows drawings)
 
 pub limit_told : (found : Option Limit) (what : What) (limit : ℕ) (next : Outcome) → option_map what_of found ≡ Some what → limit ≡ greatest_of what
     → within_limits found next ≡ ended (answers.Limit what limit)
@@ -124,33 +129,43 @@ module _ (files : Files) (s : SceneRecord) (base : List ℕ) (p : PlanRecord) (t
       ap (rendering_section files s base p section earlier rows) (sections_apart sections (section + 1) (earlier ++ rows) next)
 
 -- it goes as the render of the plan of the rows
+pub rows_shown : PlanLaw → (files : Files) (s : SceneRecord) (base : List ℕ) (from to : ℕ) (p : PlanRecord) (next : PlanRecord → Outcome)
+    → ShowsRoots (tiles_of s) (roots_in s from to) p → p.drawings ≡ length (files_of s.levels) → limit_in s from to ≡ None
+    → rendering_rows files s from to base next ≡ rendering_sections files s base p 0 [] (sections_of from to) (next (plan_in s from to))
+rows_shown law files s base from to p next shows drawings none =
+    let same = plan_shown law s from to p shows drawings in
+    none_told (limit_in s from to) _ none
+    ∙ (ap (λ q. rendering_sections files s base q 0 [] (sections_of from to) (next (plan_in s from to))) (sym same)
+    ∙ sym (sections_apart files s base p (tints_shown p) (sections_of from to) 0 [] (next (plan_in s from to))))
+
 pub rendering_shown : PlanLaw → (files : Files) (s : SceneRecord) (base : List ℕ) (from to : ℕ) (p : PlanRecord) → ShowsRoots (tiles_of s) (roots_in s from to) p
     → p.drawings ≡ length (files_of s.levels) → limit_in s from to ≡ None
     → rendering_scene files from to base s ≡ rendering_sections files s base p 0 [] (sections_of from to) (closing p)
 unfolding closing
 rendering_shown law files s base from to p shows drawings none =
-    let same = law (tiles_of s) (roots_in s from to) p shows ∙ ap (plan_of (tiles_of s) (roots_in s from to)) drawings in
-    none_told (limit_in s from to) _ none
-    ∙ (ap (rendering_rows files s from to base) (sym same) ∙ sym (sections_apart files s base p (tints_shown p) (sections_of from to) 0 [] (closing p)))
+    rows_shown law files s base from to p closing shows drawings none
+    ∙ ap (rendering_sections files s base p 0 [] (sections_of from to)) (ap closing (sym (plan_shown law s from to p shows drawings)))
 
 -- each alias of the demand was computed once, where each alias of the plan was
+pub computed_rows : PlanLaw → (s : SceneRecord) (from to : ℕ) (p : PlanRecord) (computed : List ℕ) (c : Closed)
+    → ShowsRoots (tiles_of s) (roots_in s from to) p → p.drawings ≡ length (files_of s.levels) → HasEachOnce p computed → IsClosedOf p c
+    → ComputedRows s from to computed c
+computed_rows law s from to p computed c shows drawings each closed =
+    let same = plan_shown law s from to p shows drawings in
+    let once : HasEachOnce (record p { tints = tints_shown p }) computed = record { each = each.each; others = each.others } in
+    record { each = subst (λ (q : PlanRecord). HasEachOnce q computed) same once; plan = p; shown = same; closed = closed }
+
 pub computed_once : PlanLaw → (files : Option Files) (name : List ℕ) (from to : ℕ) (s : SceneRecord) (p : PlanRecord) (computed : List ℕ) (c : Closed)
     → ShowsRoots (tiles_of s) (roots_in s from to) p → p.drawings ≡ length (files_of s.levels) → limit_in s from to ≡ None
     → ((told : Files) → files ≡ Some told → Says told name s) → first_fault s ≡ None → HasEachOnce p computed → IsClosedOf p c
     → ComputedOnce files name from to computed c
-computed_once law files name from to s p computed c shows drawings none says faultless each closed =
-    let same = law (tiles_of s) (roots_in s from to) p shows ∙ ap (plan_of (tiles_of s) (roots_in s from to)) drawings in
-    let once : HasEachOnce (record p { tints = tints_shown p }) computed = record { each = each.each; others = each.others } in
-    record {
-      scene = s;
-      says = says;
-      faultless = faultless;
-      within = none;
-      each = subst (λ (q : PlanRecord). HasEachOnce q computed) same once;
-      plan = p;
-      shown = same;
-      closed = closed;
-    }
+computed_once law files name from to s p computed c shows drawings none says faultless each closed = record {
+  scene = s;
+  says = says;
+  faultless = faultless;
+  within = none;
+  rows = computed_rows law s from to p computed c shows drawings each closed;
+}
 
 -- ---- where there is one
 

@@ -17,6 +17,7 @@ use Rattle.xs_top.specs.Drawings.{file_of, kind_of, pictures_of, fault_of, bytes
 use Rattle.xs_top.specs.Finished.{IsAccepted}
 use Rattle.xs_top.specs.Outcome.{accepted, loading}
 use Rattle.xs_top.specs.Refused.{IsRefused}
+use Rattle.xs_top.specs.Leaves.{WroteNothing}
 use Rattle.xs_top.specs.Trace.{Event, Ask, asks, puts, lines, Outcome, after, Contents, grown}
 use Rattle.xs_top.proofs.LevelCodes.{level_kept}
 use Rattle.xs_top.proofs.Parts.{more-nothing}
@@ -126,7 +127,7 @@ module _ (s : SceneRecord) where
   lines-asked [] = refl
   lines-asked (d ∷ ds) = lines-asked ds
 
-  pub told_asks : (before now : Contents) (ds : List ℕ) → now.asked ≡ more before.asked (map (file_of s) ds) → now.shelf ≡ before.shelf
-      → now.notes ≡ before.notes → now ≡ grown before (map (asked_of s) ds)
-  told_asks before now ds asked shelf notes =
-      rw (asks-asked ds, puts-asked ds, lines-asked ds, more-nothing before.shelf, more-nothing before.notes, ← asked, ← shelf, ← notes) refl
+  pub told_asks : (before now : Contents) (ds : List ℕ) → now.asked ≡ more before.asked (map (file_of s) ds)
+      → WroteNothing before now → now ≡ grown before (map (asked_of s) ds)
+  told_asks before now ds asked wrote =
+      rw (asks-asked ds, puts-asked ds, lines-asked ds, more-nothing before.shelf, more-nothing before.notes, ← asked, ← wrote.shelf, ← wrote.notes, ← wrote.sum) refl

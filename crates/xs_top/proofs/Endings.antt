@@ -89,10 +89,14 @@ module _ (P : Outcome → Type 0) (stays : Stays P) where
       rw (sections_first files s base p n earlier rows sections next, section_is files s base p n earlier rows rest)
       (loading_in files s _ _ _ (rows_in s (pictures_of files s) base rows rest (sections_in files s base p (n + 1) (earlier ++ rows) sections next holds)))
 
-  pub scene_in : (files : Files) (s : SceneRecord) (base : List ℕ) (from to : ℕ) → P (closing (plan_in s from to)) → P (rendering_scene files from to base s)
-  scene_in files s base from to p =
-      within_in (limit_in s from to) (rendering_rows files s from to base (plan_in s from to))
+  pub rows_in_scene : (files : Files) (s : SceneRecord) (base : List ℕ) (from to : ℕ) (next : PlanRecord → Outcome) → P (next (plan_in s from to))
+      → P (rendering_rows files s from to base next)
+  rows_in_scene files s base from to next p =
+      within_in (limit_in s from to) (rendering_sections files s base (plan_in s from to) 0 [] (sections_of from to) (next (plan_in s from to)))
       (sections_in files s base (plan_in s from to) 0 [] (sections_of from to) _ p)
+
+  pub scene_in : (files : Files) (s : SceneRecord) (base : List ℕ) (from to : ℕ) → P (closing (plan_in s from to)) → P (rendering_scene files from to base s)
+  scene_in files s base from to p = rows_in_scene files s base from to closing p
 
   -- and so of what follows a scene, where it is so of each answer that tells a scene
   module _ (refused : (fault : SceneFault) → P (ended (answers.Scene fault))) (next : SceneRecord → Outcome) (p : (s : SceneRecord) → P (next s)) where

@@ -29,7 +29,7 @@ use Rattle.xs_plan.specs.Record.{PlanRecord}
 use Rattle.xs_demand.specs.Limits.{Limit}
 use Rattle.xs_dryrun.specs.declared.limits.What.TheVariants as what
 use Rattle.xs_top.proofs.Walking.{Load, numbers, Cause, Walked, loading_walked, numbers_over, walked_then, walked_to, loaded_at, no_cause, one_first}
-use Rattle.xs_top.specs.Outcome.{asking, placing, noting, decoded, if_faultless, within_limits, loading_scene, placing_rows, rendering_sections, rendered_line, closing, rendering_scene, rendering}
+use Rattle.xs_top.specs.Outcome.{asking, placing, noting, decoded, if_faultless, within_limits, loading_scene, placing_rows, rendering_sections, rendered_line, closing, rendering_rows, rendering_scene, rendering}
 use Rattle.xs_top.proofs.Parts.{asks-append, puts-append, lines-append, after-after}
 use Rattle.xs_top.proofs.Answered.{found_there}
 use Rattle.xs_top.proofs.Scenes.{scene_asked}
@@ -266,19 +266,37 @@ numbers_loaded once files s from to ordered =
     ap numbers (sym (loads_are files s from to))
     ∙ (sections_numbers files s [] (plan_in s from to) once (sections_of from to) 0 [] ∙ ap (λ rows. fresh [] (needed s rows)) (joined_sections from to ordered))
 
+-- what rendering a scene's rows does before its line
+pub frames_events : Files → SceneRecord → List ℕ → (from to : ℕ) → List Event
+frames_events files s base from to = sections_events s (pictures_of files s) base [] (sections_of from to)
+
+pub rows_walked : (files : Files) (s : SceneRecord) (base : List ℕ) (from to : ℕ) (next : PlanRecord → Outcome) → limit_in s from to ≡ None
+    → Walked files s (loads files s from to) (frames_events files s base from to) (rendering_rows files s from to base next) (next (plan_in s from to))
+unfolding frames_events
+rows_walked files s base from to next none =
+    rw (none, ← loads_are files s from to)
+    (sections_walked files s base (plan_in s from to) (sections_of from to) 0 [] (next (plan_in s from to)))
+
+pub frames_puts : (files : Files) (s : SceneRecord) (base : List ℕ) (from to : ℕ) → from ≤ to
+    → puts (frames_events files s base from to) ≡ frames_of files s base (rows_of from to)
+unfolding frames_events
+frames_puts files s base from to ordered =
+    sections_puts s (pictures_of files s) base (sections_of from to) [] ∙ ap (frames_of files s base) (joined_sections from to ordered)
+
+pub frames_lines : (files : Files) (s : SceneRecord) (base : List ℕ) (from to : ℕ) → lines (frames_events files s base from to) ≡ []
+unfolding frames_events
+frames_lines files s base from to = sections_lines s (pictures_of files s) base (sections_of from to) []
+
 -- what a render of a scene's rows has done
 pub rows_events : Files → SceneRecord → List ℕ → (from to : ℕ) → List Event
-rows_events files s base from to =
-    sections_events s (pictures_of files s) base [] (sections_of from to) ++ closing_events (plan_in s from to)
+rows_events files s base from to = frames_events files s base from to ++ closing_events (plan_in s from to)
 
 pub scene_walked : (files : Files) (s : SceneRecord) (base : List ℕ) (from to : ℕ) → limit_in s from to ≡ None
     → Walked files s (loads files s from to) (rows_events files s base from to) (rendering_scene files from to base s) (ended answers.Ok)
 unfolding rows_events closing noting
 scene_walked files s base from to none =
-    let p = plan_in s from to in
-    let walked = sections_walked files s base p (sections_of from to) 0 [] (closing p) in
-    rw (none, ← loads_are files s from to)
-    (walked_to files s _ (sections_events s (pictures_of files s) base [] (sections_of from to)) (closing_events p) _ (ended answers.Ok) walked)
+    walked_to files s _ (frames_events files s base from to) (closing_events (plan_in s from to)) _ (ended answers.Ok)
+    (rows_walked files s base from to closing none)
 
 pub accepted_loads : (files : Files) (s : SceneRecord) (l : List Load) → ((d : ℕ) → is_listed (numbers l) d ≡ true → IsAccepted files s d)
     → All (λ load. load.1 ≤ MOST_SECTION_BYTES) l → All (IsLoaded files s) l
@@ -296,57 +314,58 @@ module _ (files : Files) (name base : List ℕ) (s : SceneRecord) (from to : ℕ
       scene_through files name s (rendering_scene files from to base) says
       ∙ ap (λ found. after (Ask name ∷ []) (if_faultless found (rendering_scene files from to base s))) good
 
-module _ (once : TakenOnce) (files : Files) (name base : List ℕ) (s : SceneRecord) (from to : ℕ) (ordered : from ≤ to) (says : Says files name s)
-    (good : first_fault s ≡ None) (within : AreWithin files s from to) (ok : AreAccepted files s (rows_of from to)) where
+module _ (once : TakenOnce) (files : Files) (base : List ℕ) (s : SceneRecord) (from to : ℕ) (ordered : from ≤ to)
+    (within : AreWithin files s from to) (ok : AreAccepted files s (rows_of from to)) where
   all_loaded : All (IsLoaded files s) (loads files s from to)
   all_loaded =
       accepted_loads files s (loads files s from to)
       (λ d listed. ok d (sym (fresh_listed once [] (needed s (rows_of from to)) d) ∙ (ap (λ l. is_listed l d) (sym (numbers_loaded once files s from to ordered)) ∙ listed)))
       within.sections
 
-  events : List Event
-  events = sections_events s (pictures_of files s) base [] (sections_of from to)
+  -- all of them are loaded, and what follows is done
+  pub rows_through : (next : PlanRecord → Outcome)
+      → rendering_rows files s from to base next ≡ after (frames_events files s base from to) (next (plan_in s from to))
+  rows_through next = goes_through (rows_walked files s base from to next within.demand)
+    where
+      goes_through : Walked files s (loads files s from to) (frames_events files s base from to) (rendering_rows files s from to base next) (next (plan_in s from to))
+          → rendering_rows files s from to base next ≡ after (frames_events files s base from to) (next (plan_in s from to))
+      goes_through (inl (all, same)) = same
+      goes_through (inr stop) =
+          absurd (no_cause files s stop.load stop.status
+          (loaded_at files s stop.before stop.load stop.behind (subst (All (IsLoaded files s)) stop.place all_loaded)) stop.cause)
 
-  goes_through : Walked files s (loads files s from to) (rows_events files s base from to) (rendering_scene files from to base s) (ended answers.Ok)
-      → rendering_scene files from to base s ≡ after (rows_events files s base from to) (ended answers.Ok)
-  goes_through (inl (all, same)) = same
-  goes_through (inr stop) =
-      absurd (no_cause files s stop.load stop.status
-      (loaded_at files s stop.before stop.load stop.behind (subst (All (IsLoaded files s)) stop.place all_loaded)) stop.cause)
-
-  rendered : rendering files name from to base ≡ after (Ask name ∷ (events ++ closing_events (plan_in s from to))) (ended answers.Ok)
-  unfolding rows_events events
+module _ (once : TakenOnce) (files : Files) (name base : List ℕ) (s : SceneRecord) (from to : ℕ) (ordered : from ≤ to) (says : Says files name s)
+    (good : first_fault s ≡ None) (within : AreWithin files s from to) (ok : AreAccepted files s (rows_of from to)) where
+  rendered : rendering files name from to base ≡ after (Ask name ∷ (frames_events files s base from to ++ closing_events (plan_in s from to))) (ended answers.Ok)
+  unfolding closing noting
   rendered =
       render_is files name base s from to says good
-      ∙ (ap (after (Ask name ∷ [])) (goes_through (scene_walked files s base from to within.demand))
-      ∙ after-after (Ask name ∷ []) (events ++ closing_events (plan_in s from to)) (ended answers.Ok))
+      ∙ (ap (after (Ask name ∷ [])) (rows_through once files base s from to ordered within ok closing ∙ after-after (frames_events files s base from to) (closing_events (plan_in s from to)) (ended answers.Ok))
+      ∙ after-after (Ask name ∷ []) (frames_events files s base from to ++ closing_events (plan_in s from to)) (ended answers.Ok))
 
   pub rendered_ends : (rendering files name from to base).status ≡ answers.Ok
   rendered_ends = ap (λ o. o.status) rendered
 
-  work_is : (rendering files name from to base).work ≡ Ask name ∷ (events ++ closing_events (plan_in s from to))
+  work_is : (rendering files name from to base).work ≡ Ask name ∷ (frames_events files s base from to ++ closing_events (plan_in s from to))
   work_is = ap (λ o. o.work) rendered ∙ append-nil _
 
   pub rendered_asks : asks (rendering files name from to base).work ≡ name ∷ map (file_of s) (each_once (needed s (rows_of from to)))
-  unfolding events
+  unfolding frames_events
   rendered_asks =
-      ap asks work_is ∙ ap (λ l. name ∷ l) (asks-append events (closing_events (plan_in s from to))
+      ap asks work_is ∙ ap (λ l. name ∷ l) (asks-append (frames_events files s base from to) (closing_events (plan_in s from to))
       ∙
       (append-nil _
       ∙ (sections_asks s (pictures_of files s) base once (sections_of from to) [] ∙ ap (λ rows. map (file_of s) (fresh [] (needed s rows))) (joined_sections from to ordered))))
 
   pub rendered_puts : puts (rendering files name from to base).work ≡ frames_of files s base (rows_of from to)
-  unfolding events
   rendered_puts =
-      ap puts work_is ∙ (puts-append events (closing_events (plan_in s from to))
-      ∙
-      (append-nil _ ∙ (sections_puts s (pictures_of files s) base (sections_of from to) [] ∙ ap (frames_of files s base) (joined_sections from to ordered))))
+      ap puts work_is ∙ (puts-append (frames_events files s base from to) (closing_events (plan_in s from to))
+      ∙ (append-nil _ ∙ frames_puts files s base from to ordered))
 
   pub rendered_lines : lines (rendering files name from to base).work ≡ rendered_line (plan_in s from to) ++ 10 ∷ []
-  unfolding events
   rendered_lines =
-      ap lines work_is ∙ (lines-append events (closing_events (plan_in s from to))
-      ∙ ap (λ l. l ++ lines (closing_events (plan_in s from to))) (sections_lines s (pictures_of files s) base (sections_of from to) []))
+      ap lines work_is ∙ (lines-append (frames_events files s base from to) (closing_events (plan_in s from to))
+      ∙ ap (λ l. l ++ lines (closing_events (plan_in s from to))) (frames_lines files s base from to))
 
 -- ---- a render that ends otherwise
 

@@ -25,7 +25,7 @@ use Rattle.xs_demand.specs.Limits.{Limit}
 use Rattle.xs_dryrun.specs.declared.limits.What.TheVariants as what
 use Rattle.xs_base.specs.Sections.{rows_of, sections_of}
 use Rattle.xs_top.specs.Finished.{Says, frames_of}
-use Rattle.xs_top.specs.Outcome.{asking, placing, noting, if_faultless, decoded, within_limits, counted, accepted, loading_scene, loading, placing_rows, rendering_sections, closing, rendering_rows, rendering_scene, rendering}
+use Rattle.xs_top.specs.Outcome.{asking, placing, noting, if_faultless, decoded, within_limits, counted, accepted, loading_scene, loading, placing_rows, rendering_sections, closing, rendering_scene, rendering}
 use Rattle.xs_top.proofs.Answered.{found_absent, found_there, found_too_long}
 use Rattle.xs_top.proofs.Scenes.{scene_asked}
 use Rattle.xs_top.proofs.Drawn.{loading_none, loading_first}
@@ -110,8 +110,8 @@ front_rendering files name base s from to ordered says =
     rw (scene_through files name s (rendering_scene files from to base) says)
     (front_ask _ name _
     (front_checked _ (first_fault s) (rendering_scene files from to base s)
-    (front_within _ (limit_in s from to) (rendering_rows files s from to base p)
-    (subst (λ (rows : List ℕ). IsFront (frames_of files s base rows) (rendering_rows files s from to base p)) (joined_sections from to ordered) sections))))
+    (front_within _ (limit_in s from to) (rendering_sections files s base p 0 [] (sections_of from to) (closing p))
+    (subst (λ (rows : List ℕ). IsFront (frames_of files s base rows) (rendering_sections files s base p 0 [] (sections_of from to) (closing p))) (joined_sections from to ordered) sections))))
 
 -- ---- whether a file says a scene
 

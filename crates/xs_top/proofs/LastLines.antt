@@ -21,9 +21,12 @@ use Rattle.xs_top.specs.Causes.{is_noting}
 use Rattle.xs_top.specs.Leaves.{Quiet}
 use Rattle.xs_top.specs.Runs.{Undone}
 use Rattle.xs_levels.specs.Films.{Files}
-use Rattle.xs_top.specs.Outcome.{noting, noting_lines, rendered_line, closing, rendering, rendering_scene, within_limits, demanding, demanding_scene, showing, showing_scene, commanding, obeying, outcome}
+use Rattle.xs_top.specs.Outcome.{noting, noting_lines, rendered_line, closing, rendering, rendering_scene, within_limits, demanding, demanding_scene, showing, showing_scene, summing, making_rows, making, commanding, obeying, outcome}
 use Rattle.xs_plan.specs.Record.{PlanRecord}
-use Rattle.xs_top.proofs.Endings.{Stays, scene_in, scene_loaded_in}
+use Rattle.xs_make.specs.Scenes.{scene_from}
+use Rattle.xs_top.specs.Generated.{made_files, made_base, made_line, made_sum}
+use Rattle.xs_top.proofs.Unasked.{lines-without}
+use Rattle.xs_top.proofs.Endings.{Stays, rows_in_scene, scene_in, scene_loaded_in}
 
 -- ---- what ends well has a line
 
@@ -78,14 +81,29 @@ unfolding demanding
 demanding_line_there files name from to =
     scene_loaded_in HasLine lines_stay scene_line (demanding_scene from to) (demanding_line from to) files name
 
-pub command_line : (files : Files) (words : Command) → HasLine (commanding files words)
-unfolding commanding rendering showing
-command_line files (command.Render scene from to workers base) =
+pub rendering_line : (files : Files) (name : List ℕ) (from to : ℕ) (base : List ℕ) → HasLine (rendering files name from to base)
+unfolding rendering
+rendering_line files name from to base =
     scene_loaded_in HasLine lines_stay scene_line (rendering_scene files from to base)
-    (λ s. scene_in HasLine lines_stay files s base from to (closing_line (plan_in s from to))) files scene
+    (λ s. scene_in HasLine lines_stay files s base from to (closing_line (plan_in s from to))) files name
+
+pub showing_line_there : (files : Files) (name : List ℕ) → HasLine (showing files name)
+unfolding showing
+showing_line_there files name = scene_loaded_in HasLine lines_stay scene_line showing_scene showing_line files name
+
+pub making_line : (seed rows : ℕ) → HasLine (making seed rows)
+unfolding making making_rows summing noting
+making_line seed rows ends none =
+    rows_in_scene HasLine lines_stay (made_files seed) (scene_from seed rows) made_base 1 rows (summing seed rows)
+    (λ over left. line_there (made_line seed (plan_in (scene_from seed rows) 1 rows) (made_sum seed rows)) [] left)
+    ends (sym (lines-without (making_rows seed rows).work) ∙ none)
+
+pub command_line : (files : Files) (words : Command) → HasLine (commanding files words)
+unfolding commanding
+command_line files (command.Render scene from to workers base) = rendering_line files scene from to base
 command_line files (command.Dry scene from to) = demanding_line_there files scene from to
-command_line files (command.Show scene) = scene_loaded_in HasLine lines_stay scene_line showing_scene showing_line files scene
-command_line files (command.Make seed rows workers) = not_yet_line
+command_line files (command.Show scene) = showing_line_there files scene
+command_line files (command.Make seed rows workers) = making_line seed rows
 command_line files (command.Again old new from to workers base) = not_yet_line
 
 obeying_line : (files : Files) (reading : Result Command Usage) → HasLine (obeying files reading)

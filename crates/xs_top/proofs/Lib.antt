@@ -27,3 +27,7 @@ pub mod FrameNames
 pub mod LastLines
 pub mod Demanding
 pub mod Showing
+pub mod Unasked
+pub mod FrameSums
+pub mod MadeLoads
+pub mod Making

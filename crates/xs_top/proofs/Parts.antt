@@ -1,11 +1,13 @@
 -- Parts of a run, one after another.
-use Rattle.std.proofs.Common.{◌≡◌, List, [], ◌∷◌, ◌++◌, Option, Some, None, Result, Ok, Err, refl, true, false, sym, ap, ◌∙◌, append_assoc, inl, inr, arith}
+use Rattle.std.proofs.Common.{◌≡◌, ℕ, List, [], ◌∷◌, ◌++◌, Option, Some, None, Result, Ok, Err, refl, true, false, sym, ap, ◌∙◌, append_assoc, inl, inr, arith}
 use Rattle.std.proofs.lemmas.Bool.{false≢true}
 use Rattle.std.proofs.lemmas.List.{append-nil}
 use Rattle.xs_outside.specs.Told.{Rose, more}
+use Rattle.xs_outside.specs.declared.object.Object.{Object}
 use Rattle.xs_top.specs.declared.status.Status.{Status}
 use Rattle.xs_top.specs.declared.status.Status.TheVariants as answers
-use Rattle.xs_top.specs.Trace.{Event, Ask, Place, Line, asks, puts, lines, Outcome, ended, after, Contents, grown}
+use Rattle.xs_top.specs.Trace.{Event, Ask, Place, Line, asks, puts, lines, Outcome, ended, after, Contents, grown, added, pixel_sum, summed}
+use Rattle.std.specs.Option.{option_map}
 use Rattle.xs_top.specs.Seen.{Seen, OutsideRecord}
 use Rattle.xs_top.specs.Causes.{is_lost, is_of_library, is_of_output, is_of_words, IsInside}
 use Rattle.xs_top.specs.Leaves.{Leaves, Quiet, Keeps}
@@ -44,11 +46,15 @@ unfolding more
 more-more None first then = refl
 more-more (Some told) first then = ap Some (append_assoc told first then)
 
+summed-append : (first then : List Object) (told : Option ℕ) → summed (summed told first) then ≡ summed told (first ++ then)
+summed-append [] then told = refl
+summed-append (frame ∷ first) then told = summed-append first then (option_map (λ total. added total (pixel_sum frame.bytes)) told)
+
 grown-nothing : (seen : Contents) → grown seen [] ≡ seen
 grown-nothing seen = simp more-nothing
 
 pub grown-grown : (seen : Contents) (first then : List Event) → grown (grown seen first) then ≡ grown seen (first ++ then)
-grown-grown seen first then = simp (more-more, asks-append, puts-append, lines-append)
+grown-grown seen first then = simp (more-more, summed-append, asks-append, puts-append, lines-append)
 
 pub after-after : (first then : List Event) (left : Outcome) → after first (after then left) ≡ after (first ++ then) left
 after-after first then left = simp append_assoc

@@ -93,23 +93,24 @@ module _ (files : Files) (name base : List ℕ) (from to : ℕ) (ordered : from 
     none = λ nothing. gained.shelf.1 ∙ (ap (more before.shelf) (take_none gained.shelf.0 _ (nothing_placed nothing)) ∙ more-nothing _);
   }
 
-module _ (files : Files) (words : List (List ℕ)) (name base : List ℕ) (from to workers : ℕ) (ordered : from ≤ to)
-    (reads : reading_of words ≡ Ok (command.Render name from to workers base)) (before now : Seen) (result : Status)
-    (run : IsRun (outcome files words) before now result) where
-  is_rendering : outcome files words ≡ rendering files name from to base
-  unfolding commanding
-  is_rendering = command_obeyed files words (command.Render name from to workers base) reads
+-- the words of a render tell it
+pub is_rendering : (files : Files) (words : List (List ℕ)) (name base : List ℕ) (from to workers : ℕ)
+    → reading_of words ≡ Ok (command.Render name from to workers base) → outcome files words ≡ rendering files name from to base
+unfolding commanding
+is_rendering files words name base from to workers reads = command_obeyed files words (command.Render name from to workers base) reads
 
+module _ (files : Files) (name base : List ℕ) (from to : ℕ) (ordered : from ≤ to) (all : Outcome) (is : all ≡ rendering files name from to base)
+    (before now : Seen) (result : Status) (run : IsRun all before now result) where
   run_rendered : TakenOnce → result ≡ answers.Ok → IsRendered files name base from to before.told now.told
   run_rendered once ends =
       let unbroken : is_broken result ≡ false = ap is_broken ends in
       rendered_all files name base from to ordered once before.told now.told
-      (run.whole unbroken ∙ ap (λ o. grown before.told o.work) is_rendering)
-      (ap (λ o. o.status) (sym is_rendering) ∙ (sym (run.answer unbroken) ∙ ends))
+      (run.whole unbroken ∙ ap (λ o. grown before.told o.work) is)
+      (ap (λ o. o.status) (sym is) ∙ (sym (run.answer unbroken) ∙ ends))
 
   pub run_rows : TakenOnce → RanRows files name base from to before now result
   run_rows once = record {
     whole = run_rendered once;
     frames = frames_gained files name base from to ordered before.told now.told
-        (subst (λ (all : Outcome). GainedFront all before.told now.told) is_rendering run.front);
+        (subst (λ (whole : Outcome). GainedFront whole before.told now.told) is run.front);
   }

@@ -12,7 +12,7 @@ use Rattle.xs_outside.specs.Told.{Rose, more}
 use Rattle.xs_rawfile.specs.declared.fault.LevelCode.{LevelCode}
 use Rattle.xs_rawfile.specs.declared.fault.LevelCode.TheVariants as level
 use Rattle.xs_top.specs.Causes.{is_lost_level}
-use Rattle.xs_top.specs.Leaves.{Keeps, OnlyReads}
+use Rattle.xs_top.specs.Leaves.{Keeps, OnlyReads, WroteNothing}
 use Rattle.xs_top.specs.Seen.{OutsideRecord}
 use Rattle.xs_dryrun.specs.declared.limits.What.TheVariants as what
 use Rattle.xs_scene.specs.Records.{SceneRecord}
@@ -112,7 +112,7 @@ module _ (files : Files) (s : SceneRecord) where
 
   -- ---- the answers
 
-  module _ (news : List ℕ) (over : ℕ) (next : Outcome) (before now : Contents) (shelf : now.shelf ≡ before.shelf) (notes : now.notes ≡ before.notes) where
+  module _ (news : List ℕ) (over : ℕ) (next : Outcome) (before now : Contents) (wrote : WroteNothing before now) where
     abbrev all : Outcome
     all = loading files s over news next
 
@@ -126,7 +126,7 @@ module _ (files : Files) (s : SceneRecord) where
               passed_over news (length news) over next passed (omega arith)
               ∙ (ap (λ l. after (map (asked_of s) l) (loading files s (bytes_after files (table_of s) over news (length news)) (drop (length news) news) next)) whole
               ∙ ap (after (map (asked_of s) news)) (ap (λ l. loading files s (bytes_after files (table_of s) over news (length news)) l next) none ∙ loading_none files s _ next));
-          told = told_asks s before now news asked shelf notes;
+          told = told_asks s before now news asked wrote;
         }
 
     pub level_did : (at d : ℕ) (code : LevelCode) → IsLoaded files (table_of s) MOST_SECTION_BYTES over news (loaded.Level at d code)
@@ -136,7 +136,7 @@ module _ (files : Files) (s : SceneRecord) where
       split =
           reached news at d over next passed (place_of news at d place)
           ∙ ap (λ f. after (map (asked_of s) (take (at + 1) news)) (accepted d f (bytes_after files (table_of s) over news at + bytes_of files s d) (loading files s (bytes_after files (table_of s) over news at + bytes_of files s d) (drop (at + 1) news) next))) fault;
-      told = told_asks s before now (take (at + 1) news) asked shelf notes;
+      told = told_asks s before now (take (at + 1) news) asked wrote;
     }
 
     pub limit_did : (at d : ℕ) → IsLoaded files (table_of s) MOST_SECTION_BYTES over news (loaded.Limit at d)
@@ -153,7 +153,7 @@ module _ (files : Files) (s : SceneRecord) where
               ∙ ap (after (map (asked_of s) (take (at + 1) news)))
               (ap (λ f. accepted d f (bytes + bytes_of files s d) (loading files s (bytes + bytes_of files s d) (drop (at + 1) news) next)) none
               ∙ counted_past (bytes + bytes_of files s d) _ (omega (arith, sum, past)));
-          told = told_asks s before now (take (at + 1) news) asked shelf notes;
+          told = told_asks s before now (take (at + 1) news) asked wrote;
         }
 
     pub read_fault_stopped : (at : ℕ) → IsLoaded files (table_of s) MOST_SECTION_BYTES over news (loaded.ReadFault at)
@@ -175,7 +175,7 @@ module _ (files : Files) (s : SceneRecord) where
             told = refl;
           };
           asked =
-              told_asks s before now (take (at + 1) news) asked shelf notes
+              told_asks s before now (take (at + 1) news) asked wrote
               ∙ (ap (λ l. grown before l) (ap (map (asked_of s)) there.before ∙ sym (map_one (take at news) d)) ∙ sym (grown_one before (map (asked_of s) (take at news)) d));
         }
 
@@ -186,7 +186,7 @@ module _ (files : Files) (s : SceneRecord) where
       record {
         done = map (asked_of s) (take at news);
         split = passed_over news at over next passed (let few = within in omega arith);
-        told = told_asks s before now (take at news) asked shelf notes;
+        told = told_asks s before now (take at news) asked wrote;
       },
     )
     memory_did at (passed, within) (inr asked) = (
@@ -194,7 +194,7 @@ module _ (files : Files) (s : SceneRecord) where
       record {
         done = map (asked_of s) (take (at + 1) news);
         split = reached news at (get_or news at 0) over next passed (at_place news at (get_or news at 0) within refl);
-        told = told_asks s before now (take (at + 1) news) asked shelf notes;
+        told = told_asks s before now (take (at + 1) news) asked wrote;
       },
     )
 
@@ -224,7 +224,7 @@ level_keeps before now d code reads later loss = record {
     library = λ kept. loss.still (same_loss code ∙ kept);
     outputs = λ _. reads.outputs;
   };
-  notes = reads.notes;
+  notes = reads.told.notes;
   words = refl;
   same = reads.same;
 }
@@ -241,7 +241,7 @@ read_fault_keeps before now reads later rose = record {
     library = λ kept. absurd cc;
     outputs = λ _. reads.outputs;
   };
-  notes = reads.notes;
+  notes = reads.told.notes;
   words = refl;
   same = reads.same;
 }

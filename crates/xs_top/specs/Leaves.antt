@@ -3,6 +3,7 @@ use Rattle.xs_outside.specs.Told.{Rose}
 use Rattle.xs_top.specs.declared.status.Status.{Status}
 use Rattle.xs_top.specs.declared.status.Status.TheVariants as answers
 use Rattle.xs_top.specs.Causes.{is_lost, is_of_library, is_of_output, is_of_words, is_noting}
+use Rattle.xs_top.specs.Trace.{Contents}
 use Rattle.xs_top.specs.Seen.{Faults, Seen, OutsideRecord}
 
 -- no count has fallen
@@ -47,10 +48,15 @@ pub record Keeps (before now : OutsideRecord) (answer : Status) : Type 0 where
   pub words : is_of_words answer ≡ false
   pub same : now.names ≡ before.names
 
+-- nothing was written, as is told
+pub record WroteNothing (before now : Contents) : Type 0 where
+  pub shelf : now.shelf ≡ before.shelf
+  pub notes : now.notes ≡ before.notes
+  pub sum : now.sum ≡ before.sum
+
 -- of an outside at most the library was asked: nothing is written, and none of the three is another one
 pub record OnlyReads (before now : OutsideRecord) : Type 0 where
   pub files : now.seen.files ≡ before.seen.files
-  pub shelf : now.seen.told.shelf ≡ before.seen.told.shelf
-  pub notes : now.seen.told.notes ≡ before.seen.told.notes
+  pub told : WroteNothing before.seen.told now.seen.told
   pub outputs : StandStill before.seen.faults now.seen.faults
   pub same : now.names ≡ before.names

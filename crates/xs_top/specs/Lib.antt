@@ -5,6 +5,7 @@ pub mod Frames
 pub mod Drawings
 pub mod Loads
 pub mod Once
+pub mod Generated
 pub mod Outcome
 pub mod Causes
 pub mod Finished

@@ -4,6 +4,7 @@ use Rattle.xs_check.specs.Passes.{first_fault}
 use Rattle.xs_core.specs.Views.{times}
 use Rattle.xs_demand.specs.Shown.{tints_shown}
 use Rattle.xs_levels.specs.Films.{Files}
+use Rattle.xs_make.specs.Scenes.{scene_from}
 use Rattle.xs_plan.specs.Record.{PlanRecord}
 use Rattle.xs_plan.specs.Reads.{reads_in}
 use Rattle.xs_render.specs.Computed.{HasEachOnce}
@@ -28,22 +29,45 @@ pub record IsClosedOf (p : PlanRecord) (c : Closed) : Type 0 where
   pub others : (e : ℕ) → reads_in p ≤ e → times e (closed_served c) ≡ 0
   pub empty : closed_tiles c ≡ 0
 
--- the rows of a scene were rendered with each alias of their demand computed once, in a cache that was closed; the cache
--- was one of the plan of the rows, but for how this tells its tints. The scene has no fault, its rows pass no limit of
--- the demand, and where the library tells its files one of them says it
-pub record ComputedOnce (files : Option Files) (name : List ℕ) (from to : ℕ) (computed : List ℕ) (c : Closed) : Type 0 where
-  pub scene : SceneRecord
-  pub says : (told : Files) → files ≡ Some told → Says told name scene
-  pub faultless : first_fault scene ≡ None
-  pub within : limit_in scene from to ≡ None
+-- each alias of the demand of rows was computed once, in a cache that was closed; the cache was one of the plan of the
+-- rows, but for how this tells its tints
+pub record ComputedRows (scene : SceneRecord) (from to : ℕ) (computed : List ℕ) (c : Closed) : Type 0 where
   pub each : HasEachOnce (plan_in scene from to) computed
   pub plan : PlanRecord
   pub shown : record plan { tints = tints_shown plan } ≡ plan_in scene from to
   pub closed : IsClosedOf plan c
 
+-- so it was of rows of a scene that has no fault, and whose rows pass no limit of the demand; where the library tells its
+-- files, one of them says it
+pub record ComputedOnce (files : Option Files) (name : List ℕ) (from to : ℕ) (computed : List ℕ) (c : Closed) : Type 0 where
+  pub scene : SceneRecord
+  pub says : (told : Files) → files ≡ Some told → Says told name scene
+  pub faultless : first_fault scene ≡ None
+  pub within : limit_in scene from to ≡ None
+  pub rows : ComputedRows scene from to computed c
+
 -- no alias was computed twice
 abbrev pub NoneTwice : List ℕ → Type 0
 NoneTwice computed = (k : ℕ) → times k computed ≤ 1
+
+-- a render that ended well computed each alias once, in a cache that is closed
+abbrev pub EndsOnce : Option Files → List ℕ → (from to : ℕ) → List ℕ → Option Closed → Type 0
+EndsOnce files name from to computed end = (closed : Closed) × (end ≡ Some closed) × ComputedOnce files name from to computed closed
+
+-- so did a render where it ended well; else there is no closing record; and no alias was computed twice
+pub record RenderedOnce (files : Option Files) (name : List ℕ) (from to : ℕ) (computed : List ℕ) (end : Option Closed) (answer : Status) : Type 0 where
+  pub whole : answer ≡ answers.Ok → EndsOnce files name from to computed end
+  pub failed : is_ok answer ≡ false → end ≡ None
+  pub twice : NoneTwice computed
+
+-- so it was of a generated scene
+abbrev pub MadeOnce : (seed rows : ℕ) → List ℕ → Option Closed → Type 0
+MadeOnce seed rows computed end = (closed : Closed) × (end ≡ Some closed) × ComputedRows (scene_from seed rows) 1 rows computed closed
+
+pub record GeneratedOnce (seed rows : ℕ) (computed : List ℕ) (end : Option Closed) (answer : Status) : Type 0 where
+  pub whole : answer ≡ answers.Ok → MadeOnce seed rows computed end
+  pub failed : is_ok answer ≡ false → end ≡ None
+  pub twice : NoneTwice computed
 
 -- ---- a run
 
@@ -68,7 +92,9 @@ AreIdleFrom workers records = (n : ℕ) → workers ≤ n → slice_index_or rec
 pub record RendersOnce (files : Option Files) (said : Command) (computed : List ℕ) (end : Option Closed) (answer : Status) : Type 0 where
   pub rendered :
       (scene base : List ℕ) (from to workers : ℕ) → said ≡ command.Render scene from to workers base → answer ≡ answers.Ok
-      → (closed : Closed) × (end ≡ Some closed) × ComputedOnce files scene from to computed closed
+      → EndsOnce files scene from to computed end
+  pub made :
+      (seed rows workers : ℕ) → said ≡ command.Make seed rows workers → answer ≡ answers.Ok → MadeOnce seed rows computed end
   pub shown : (scene : List ℕ) → said ≡ command.Show scene → end ≡ None
   pub dry : (scene : List ℕ) (from to : ℕ) → said ≡ command.Dry scene from to → end ≡ None
   pub failed : is_ok answer ≡ false → end ≡ None

@@ -18,9 +18,11 @@ use Rattle.xs_words.specs.Grammar.{reading_of}
 use Rattle.xs_top.specs.declared.status.Status.{Status}
 use Rattle.xs_top.specs.declared.status.Status.TheVariants as answers
 use Rattle.xs_base.specs.declared.limits.TheConstants.{SCENE_LIMIT}
-use Rattle.xs_top.specs.Trace.{Ask, Place, Line, Outcome, ended, after}
+use Rattle.xs_top.specs.Trace.{Ask, Place, Line, Outcome, ended, after, unasked}
 use Rattle.xs_levels.specs.Films.{Files}
+use Rattle.xs_make.specs.Scenes.{scene_from}
 use Rattle.xs_top.specs.Frames.{frame_at}
+use Rattle.xs_top.specs.Generated.{made_files, made_base, made_line, made_sum}
 use Rattle.xs_top.specs.Drawings.{file_of, pictures_of, fault_of, bytes_of, bytes_held_over}
 use Rattle.xs_top.specs.declared.limits.TheConstants.{MOST_SECTION_BYTES}
 use Rattle.xs_meaning.specs.Expressions.{needed}
@@ -136,16 +138,21 @@ rendered_line p = codes "rendered " ++ totals_line p
 unfoldable pub closing : PlanRecord → Outcome
 closing p = noting (rendered_line p) (ended answers.Ok)
 
+-- the line at the end of the rows of a generated scene, with the sum of the pixels of their frames
+unfoldable pub summing : ℕ → ℕ → PlanRecord → Outcome
+summing seed rows p = noting (made_line seed p (made_sum seed rows)) (ended answers.Ok)
+
 -- ---- the commands
 
--- the rows of a plan are rendered
-abbrev pub rendering_rows : Files → SceneRecord → ℕ → ℕ → List ℕ → PlanRecord → Outcome
-rendering_rows files s from to base p = rendering_sections files s base p 0 [] (sections_of from to) (closing p)
+-- the rows of a scene are rendered, where they pass no limit, and then what follows their plan
+abbrev pub rendering_rows : Files → SceneRecord → ℕ → ℕ → List ℕ → (PlanRecord → Outcome) → Outcome
+rendering_rows files s from to base next =
+    within_limits (limit_in s from to)
+    (rendering_sections files s base (plan_in s from to) 0 [] (sections_of from to) (next (plan_in s from to)))
 
--- the rows of a scene are rendered, where they pass no limit
+-- the rows of a scene are rendered, and their line is written
 abbrev pub rendering_scene : Files → ℕ → ℕ → List ℕ → SceneRecord → Outcome
-rendering_scene files from to base s =
-    within_limits (limit_in s from to) (rendering_rows files s from to base (plan_in s from to))
+rendering_scene files from to base s = rendering_rows files s from to base closing
 
 unfoldable pub rendering : Files → List ℕ → ℕ → ℕ → List ℕ → Outcome
 rendering files name from to base = loading_scene files name (rendering_scene files from to base)
@@ -165,12 +172,19 @@ demanding_scene from to s =
 unfoldable pub demanding : Files → List ℕ → ℕ → ℕ → Outcome
 demanding files name from to = loading_scene files name (demanding_scene from to)
 
+-- the rows of a generated scene are rendered over its own files, which no library is asked for, and their line is written
+unfoldable pub making_rows : ℕ → ℕ → Outcome
+making_rows seed rows = rendering_rows (made_files seed) (scene_from seed rows) 1 rows made_base (summing seed rows)
+
+unfoldable pub making : ℕ → ℕ → Outcome
+making seed rows = unasked (making_rows seed rows)
+
 -- a command is carried out
 unfoldable pub commanding : Files → Command → Outcome
 commanding files (command.Render scene from to workers base) = rendering files scene from to base
 commanding files (command.Dry scene from to) = demanding files scene from to
 commanding files (command.Show scene) = showing files scene
-commanding files (command.Make seed rows workers) = ended answers.NotYet
+commanding files (command.Make seed rows workers) = making seed rows
 commanding files (command.Again old new from to workers base) = ended answers.NotYet
 
 -- words are a command, or none

@@ -1,17 +1,20 @@
-use Rattle.std.specs.Prelude.{◌≡◌, ℕ, ◌≤◌, List, Some, Ok, true, false}
-use Rattle.xs_words.specs.declared.command.Command.TheVariants.{Render, Dry, Show}
+use Rattle.std.specs.Prelude.{◌≡◌, ℕ, ◌≤◌, Bool, List, Option, Some, Result, Ok, true, false}
+use Rattle.xs_word_desk.specs.declared.closing.Closed.{Closed}
+use Rattle.xs_words.specs.declared.command.Command.{Command}
+use Rattle.xs_words.specs.declared.command.Command.TheVariants.{Render, Dry, Show, Make}
 use Rattle.xs_words.specs.Grammar.{reading_of}
 use Rattle.xs_dryrun.specs.declared.limits.What.{What}
 use Rattle.xs_top.specs.declared.status.Status.{Status}
 use Rattle.xs_top.specs.declared.status.Status.TheVariants as answers
 use Rattle.xs_levels.specs.Films.{Files}
 use Rattle.xs_top.specs.Seen.{Seen}
-use Rattle.xs_top.specs.Causes.{is_noting, is_of_words}
-use Rattle.xs_top.specs.Words.{Heeds, answer_to, says_dry}
-use Rattle.xs_top.specs.Leaves.{Leaves, QuietUnless}
-use Rattle.xs_top.specs.Outcome.{outcome, demanding}
-use Rattle.xs_top.specs.Runs.{Undone, IsRun}
-use Rattle.xs_top.specs.Rendered.{IsRendered, GainedFrames, IsShown, IsDemanded, PassesLimit, GainedLines}
+use Rattle.xs_top.specs.Causes.{answer_of, is_noting, is_of_words}
+use Rattle.xs_top.specs.Words.{Heeds, answer_to, answer_to_command, is_dry, says_dry}
+use Rattle.xs_top.specs.Leaves.{Leaves, Quiet, QuietUnless}
+use Rattle.xs_top.specs.Trace.{Outcome, ended}
+use Rattle.xs_top.specs.Outcome.{outcome, commanding, rendering, showing, demanding, making}
+use Rattle.xs_top.specs.Runs.{Runs, Undone, IsRun}
+use Rattle.xs_top.specs.Rendered.{IsRendered, GainedFrames, IsMade, IsShown, IsDemanded, PassesLimit, GainedLines}
 
 -- where the library tells its files, what these words did is their outcome over the files
 abbrev pub RanWords : List (List ℕ) → Seen → Seen → Status → Type 0
@@ -58,23 +61,72 @@ RanDry words before now answer =
     (files : Files) → before.files ≡ Some files → (scene : List ℕ) (from to : ℕ) → reading_of words ≡ Ok (Dry scene from to)
     → RanDemand files scene from to before now answer
 
--- what a dry run of rows of a scene has done of a library and notes, without words
-pub record RanDryRun (scene : List ℕ) (from to : ℕ) (before now : Seen) (answer : Status) : Type 0 where
-  pub told : (files : Files) → before.files ≡ Some files → IsRun (demanding files scene from to) before now answer
-  pub demanded : (files : Files) → before.files ≡ Some files → RanDemand files scene from to before now answer
-  pub undone : Undone (λ files. demanding files scene from to) before now answer
+-- ---- calls, without words
+
+-- what a call with this outcome over the files of a library has done, which writes many lines or one
+pub record RanCall (all : Files → Outcome) (many : Bool) (before now : Seen) (answer : Status) : Type 0 where
+  pub told : (files : Files) → before.files ≡ Some files → IsRun (all files) before now answer
+  pub undone : Undone all before now answer
   pub words : is_of_words answer ≡ false
   pub left : Leaves before now answer
-  pub quiet : QuietUnless true before now answer
+  pub quiet : QuietUnless many before now answer
+
+-- what a render of rows of a scene has done of a library, a shelf and notes
+pub record RanRendering (scene base : List ℕ) (from to : ℕ) (before now : Seen) (answer : Status) : Type 0 where
+  pub call : RanCall (λ files. rendering files scene from to base) false before now answer
+  pub rendered : (files : Files) → before.files ≡ Some files → RanRows files scene base from to before now answer
+
+-- what showing a scene has done of a library and notes
+pub record RanShowing (scene : List ℕ) (before now : Seen) (answer : Status) : Type 0 where
+  pub call : RanCall (λ files. showing files scene) false before now answer
+  pub shown : (files : Files) → before.files ≡ Some files → RanScene files scene before now answer
+
+-- what a dry run of rows of a scene has done of a library and notes
+pub record RanDryRun (scene : List ℕ) (from to : ℕ) (before now : Seen) (answer : Status) : Type 0 where
+  pub call : RanCall (λ files. demanding files scene from to) true before now answer
+  pub demanded : (files : Files) → before.files ≡ Some files → RanDemand files scene from to before now answer
+
+-- whether an answer is one of a generated scene, which has no fault and keeps all limits
+abbrev pub is_of_making : Status → Bool
+is_of_making answers.Ok = true
+is_of_making answers.WriteFault = true
+is_of_making answers.Memory = true
+is_of_making answer = false
+
+-- what rendering rows of a generated scene has done of a shelf and notes; what library there is is left alone
+pub record RanMaking (seed rows : ℕ) (before now : Seen) (answer : Status) : Type 0 where
+  pub told : IsRun (making seed rows) before now answer
+  pub made : answer ≡ answers.Ok → IsMade seed rows before.told now.told
+  pub undone : Undone (λ _. making seed rows) before now answer
+  pub ends : is_of_making answer ≡ true
+  pub left : Leaves before now answer
+  pub quiet : Quiet before now answer
+  pub library : now.faults.library ≡ before.faults.library
+
+-- ---- a run of words
+
+-- where these words say to make a scene, its rows were rendered
+abbrev pub RanMake : List (List ℕ) → Seen → Seen → Status → Type 0
+RanMake words before now answer =
+    (seed rows workers : ℕ) → reading_of words ≡ Ok (Make seed rows workers) → RanMaking seed rows before now answer
 
 -- after want of memory never the whole is done where the run would have ended well
 abbrev pub LeftUndone : List (List ℕ) → Seen → Seen → Status → Type 0
 LeftUndone words = Undone (λ files. outcome files words)
 
+-- what carrying out a command over a library has done
+pub record Obeyed (said : Command) (before now : Seen) (result : Result (Option Closed) Status) : Type 0 where
+  pub did : (files : Files) → before.files ≡ Some files → Runs (commanding files said) (λ _. ended answers.Ok) before now result
+  pub leaves : Leaves before now (answer_of result)
+  pub quiet : QuietUnless (is_dry said) before now (answer_of result)
+  pub undone : Undone (λ files. commanding files said) before now (answer_of result)
+  pub heeds : Heeds (answer_to_command said) before now (answer_of result)
+
 -- what a run of these words has done of an outside where it answers so
 pub record Ran (words : List (List ℕ)) (before now : Seen) (answer : Status) : Type 0 where
   pub told : RanWords words before now answer
   pub rendered : RanRender words before now answer
+  pub made : RanMake words before now answer
   pub shown : RanShow words before now answer
   pub demanded : RanDry words before now answer
   pub undone : LeftUndone words before now answer

@@ -1,4 +1,4 @@
-use Rattle.std.specs.Prelude.{◌≡◌, ℕ, ◌+◌, ◌*◌, ◌<◌, ◌≤◌, pos, All, List, [], ◌∷◌, ◌++◌, length, slice_index_or, take, Option, None, Some, map}
+use Rattle.std.specs.Prelude.{◌≡◌, ℕ, ◌+◌, ◌*◌, ◌^◌, ◌<◌, ◌≤◌, pos, All, List, [], ◌∷◌, ◌++◌, length, slice_index_or, take, Option, None, Some, map}
 use Rattle.std.specs.Option.{option_map}
 use Rattle.xs_outside.specs.declared.object.Object.{Object}
 use Rattle.serde_json.specs.Written.{compact_text}
@@ -13,7 +13,8 @@ use Rattle.xs_pixel.specs.Points.{point, plus}
 use Rattle.xs_meaning.specs.RowValues.{row_of, camera_at, frame_of}
 use Rattle.xs_meaning.specs.Tables.{ColumnsFollow, NodesFollow, RowsFollow}
 use Rattle.xs_base.specs.Once.{each_once}
-use Rattle.xs_top.specs.Trace.{Contents}
+use Rattle.xs_top.specs.declared.status.Status.TheVariants as answers
+use Rattle.xs_top.specs.Trace.{puts, lines, Contents}
 use Rattle.xs_levels.specs.Films.{Files}
 use Rattle.xs_top.specs.declared.limits.TheConstants.{MOST_SECTION_BYTES}
 use Rattle.xs_top.specs.Drawings.{file_of}
@@ -25,7 +26,9 @@ use Rattle.xs_lines.specs.Lines.{with_ends}
 use Rattle.xs_dryrun.specs.declared.limits.What.{What}
 use Rattle.xs_dryrun.specs.Passing.{what_of, greatest_of}
 use Rattle.xs_top.specs.Demand.{limit_in, plan_in, demand_lines}
-use Rattle.xs_top.specs.Outcome.{rendered_line}
+use Rattle.xs_make.specs.Scenes.{scene_from}
+use Rattle.xs_top.specs.Generated.{made_frames, made_line, made_sum}
+use Rattle.xs_top.specs.Outcome.{rendered_line, making}
 
 -- ---- a render, without its steps
 
@@ -105,3 +108,21 @@ pub record GainedLines (files : Files) (name : List ℕ) (from to : ℕ) (before
       (s : SceneRecord) → Says files name s
       → (bytes : ℕ) × (now ≡ more before (take bytes (with_ends (demand_lines (plan_in s from to)))))
   pub none : ((s : SceneRecord) → Says files name s → ⊥) → now ≡ before
+
+-- ---- a generated scene that is rendered
+
+-- it ends well, with its frames and one line, and their sum is a number of 64 bits
+pub record RendersWhole (seed rows : ℕ) : Type 0 where
+  pub ends : (making seed rows).status ≡ answers.Ok
+  pub frames : puts (making seed rows).work ≡ made_frames seed rows
+  pub line :
+      lines (making seed rows).work ≡ made_line seed (plan_in (scene_from seed rows) 1 rows) (made_sum seed rows) ++ 10 ∷ []
+  pub small : made_sum seed rows < 2 ^ 64
+
+-- the shelf gained exactly the frames of the rows, in order, one line tells the sum of their pixels, and nothing was
+-- asked for
+pub record IsMade (seed rows : ℕ) (before now : Contents) : Type 0 where
+  pub asked : now.asked ≡ before.asked
+  pub frames : now.shelf ≡ more before.shelf (made_frames seed rows)
+  pub line :
+      now.notes ≡ more before.notes (made_line seed (plan_in (scene_from seed rows) 1 rows) (made_sum seed rows) ++ 10 ∷ [])

@@ -1,4 +1,4 @@
-use Rattle.std.specs.Prelude.{ℕ, List, Option}
+use Rattle.std.specs.Prelude.{ℕ, List, Option, None}
 use Rattle.std.specs.Borrow.{GName}
 use Rattle.xs_outside.specs.declared.object.Object.{Object}
 use Rattle.xs_top.specs.Trace.{Contents}
@@ -22,7 +22,7 @@ abbrev pub seen_of :
     Option Files → Option (List (List ℕ)) → ℕ → Option (List Object) → ℕ → Option (List ℕ) → ℕ → Seen
 seen_of files asked library objects shelf written notes = record {
   files = files;
-  told = record { asked = asked; shelf = objects; notes = written };
+  told = record { asked = asked; shelf = objects; notes = written; sum = None };
   faults = record { library = library; shelf = shelf; notes = notes };
 }
 

@@ -12,7 +12,7 @@ abbrev pub answer_to_command : Command → Option Status
 answer_to_command (command.Render scene from to workers base) = None
 answer_to_command (command.Show scene) = None
 answer_to_command (command.Dry scene from to) = None
-answer_to_command (command.Make seed rows workers) = Some answers.NotYet
+answer_to_command (command.Make seed rows workers) = None
 answer_to_command (command.Again old new from to workers base) = Some answers.NotYet
 
 -- the answer to words that leave nothing to do: they are no command, or one that is not built yet
@@ -28,6 +28,11 @@ is_dry command = false
 abbrev pub says_dry : Result Command Usage → Bool
 says_dry (Err usage) = false
 says_dry (Ok command) = is_dry command
+
+-- whether a command renders a generated scene, and so needs no library
+abbrev pub is_make : Command → Bool
+is_make (command.Make seed rows workers) = true
+is_make command = false
 
 -- the words alone decide whether there is anything to do. Where there is not, that is the answer unless memory
 -- is wanted, and nothing is asked for, handed over or written; and no other words are answered so

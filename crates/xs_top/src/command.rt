@@ -1,55 +1,32 @@
-ghost use Rattle.std.specs.Prelude.{◌≡◌, [], All, IfOk, None, flat_map, length, map, string_bytes, false};
-ghost use Rattle.serde_json.specs.Written.{compact_text};
+ghost use Rattle.std.specs.Prelude.{◌≡◌, [], All, None, flat_map, length, map, string_bytes, false};
 ghost use Rattle.xs_base.specs.declared.limits.TheConstants.{MOST_WORKERS};
-ghost use Rattle.xs_scene_json.specs.SceneData.{scene_data};
 ghost use Rattle.xs_words.specs.Commands.{IsCommand};
-ghost use Rattle.xs_top.specs.Causes.{answer_of, is_of_words};
-ghost use Rattle.xs_top.specs.Words.{Heeds, answer_to, answer_to_command, is_dry, says_dry};
+ghost use Rattle.xs_top.specs.Causes.{answer_of};
+ghost use Rattle.xs_top.specs.Words.{Heeds, answer_to_command, is_dry, is_make};
 ghost use Rattle.xs_words.specs.Grammar.{reading_of};
 ghost use Rattle.xs_top.specs.Seen.{seen_of};
-ghost use Rattle.xs_top.specs.Leaves.{Leaves, Quiet, QuietUnless};
+ghost use Rattle.xs_top.specs.Leaves.{Leaves, QuietUnless};
 ghost use Rattle.xs_top.specs.Runs.{Ends, Undone};
-ghost use Rattle.xs_top.specs.Ran.{Ran};
-ghost use Rattle.xs_top.specs.Outcome.{showing, commanding, outcome};
+ghost use Rattle.xs_top.specs.Ran.{Obeyed, Ran};
+ghost use Rattle.xs_top.specs.Outcome.{commanding};
 ghost use Rattle.xs_top.specs.Once.{RendersOnce, RunsOnce, AreIdleFrom, workers_of, workers_in, closed_by};
 
 use crate::demand::demand;
+use crate::make::make;
 use crate::outside::{Borrows, Outside};
 use crate::render::render;
-use crate::scene::load_scene;
+use crate::shown::show_scene;
 use crate::status::Status;
+use crate::sums::NoSum;
 use std::alloc::Global;
-use xs_base::Memory;
 use xs_base::laws::each_number_is_taken_once;
 use xs_bench::Bench;
-use xs_check::GoodScene;
 use xs_outside::{Library, Notes, Shelf};
-use xs_scene::Name;
-use xs_scene_json::encode;
 use xs_word_desk::Closed;
 use xs_words::{Command, read_words};
 
-/// The one text of a scene in format 2.
-fn shown_line(alloc: Global, good: GoodScene) -> Result<Vec<u8>, Memory>
-    ensures { IfOk result (λ line. line.items ≡ compact_text (scene_data (record good { format = 2 }))) }
-{
-    encode(alloc, &good.into_scene().migrated())
-}
-
-/// Writes the one text of a scene in format 2.
-fn show<O: Outside>(alloc: Global, scene: &Name, outside: &mut O) -> Result<(), Status>
-    ensures did { Ends (λ files. showing files scene.now) (O.view outside.old) (O.view outside.new) result }
-    ensures leaves { Leaves (O.view outside.old).seen (O.view outside.new).seen (answer_of result) }
-    ensures quiet { Quiet (O.view outside.old).seen (O.view outside.new).seen (answer_of result) }
-    ensures words { is_of_words (answer_of result) ≡ false }
-    ensures same { (O.view outside.new).names ≡ (O.view outside.old).names }
-{
-    let good = load_scene(alloc, scene, outside)?;
-    let line = shown_line(alloc, good)?;
-    outside.note(alloc, line.as_slice())
-}
-
-/// Carries out a command. Where rows were rendered, the closing record of their cache is answered.
+/// Carries out a command over the files of a library. Where rows were rendered, the closing record of their cache is
+/// answered.
 fn obey<O: Outside, B: Bench>(
     alloc: Global,
     command: &Command,
@@ -57,6 +34,7 @@ fn obey<O: Outside, B: Bench>(
     bench: &mut B,
 ) -> Result<Option<Closed>, Status>
     requires command { IsCommand command.now }
+    requires library { is_make command.now ≡ false }
     requires unused { B.made bench.old ≡ [] }
     ensures did { Ends (λ files. commanding files command.now) (O.view outside.old) (O.view outside.new) result }
     ensures leaves { Leaves (O.view outside.old).seen (O.view outside.new).seen (answer_of result) }
@@ -79,48 +57,87 @@ fn obey<O: Outside, B: Bench>(
             Ok(Some(closed))
         }
         Command::Show { scene } => {
-            show(alloc, scene, outside)?;
+            show_scene(alloc, scene, outside)?;
             Ok(None)
         }
         Command::Dry { scene, from, to } => {
             demand(alloc, scene, *from, *to, outside)?;
             Ok(None)
         }
-        Command::Make { .. } => Err(Status::NotYet),
+        Command::Make { .. } => unreachable!(),
         Command::Again { .. } => Err(Status::NotYet),
     }
 }
 
+/// Carries out a command over the files of this library.
+fn obey_over<L: Library, S: Shelf, T: Notes, B: Bench>(
+    alloc: Global,
+    command: &Command,
+    lib: &mut L,
+    shelf: &mut S,
+    notes: &mut T,
+    bench: &mut B,
+) -> Result<Option<Closed>, Status>
+    requires command { IsCommand command.now }
+    requires library { is_make command.now ≡ false }
+    requires unused { B.made bench.old ≡ [] }
+    ensures ran { Obeyed command.now
+        (seen_of (L.files lib.old) (L.asked lib.old) (L.faults lib.old) (S.objects shelf.old) (S.faults shelf.old) (T.written notes.old) (T.faults notes.old))
+        (seen_of (L.files lib.new) (L.asked lib.new) (L.faults lib.new) (S.objects shelf.new) (S.faults shelf.new) (T.written notes.new) (T.faults notes.new))
+        result }
+    ensures once { RendersOnce (L.files lib.old) command.now (B.made bench.new) (closed_by result) (answer_of result) }
+    ensures idle { workers_of command.now ≡ 0 → B.made bench.new ≡ [] }
+{
+    let mut outside = Borrows {
+        library: lib,
+        shelf,
+        notes,
+        sum: NoSum,
+    };
+    let done = obey(alloc, command, &mut outside, bench);
+    let Borrows {
+        library,
+        shelf,
+        notes,
+        sum: _,
+    } = outside;
+    // The borrows end here.
+    let _library = library;
+    let _shelf = shelf;
+    let _notes = notes;
+    done
+}
+
 /// Reads the words and carries out their command.
-fn try_run<O: Outside, B: Bench>(
+fn try_run<L: Library, S: Shelf, T: Notes, B: Bench>(
     alloc: Global,
     words: &Vec<String>,
-    outside: &mut O,
+    lib: &mut L,
+    shelf: &mut S,
+    notes: &mut T,
     bench: &mut B,
 ) -> Result<Option<Closed>, Status>
     requires unused { B.made bench.old ≡ [] }
-    ensures did { Ends (λ files. outcome files (map string_bytes words.now.items)) (O.view outside.old) (O.view outside.new) result }
-    ensures leaves { Leaves (O.view outside.old).seen (O.view outside.new).seen (answer_of result) }
-    ensures quiet { QuietUnless (says_dry (reading_of (map string_bytes words.now.items))) (O.view outside.old).seen (O.view outside.new).seen (answer_of result) }
-    ensures undone { Undone (λ files. outcome files (map string_bytes words.now.items)) (O.view outside.old).seen (O.view outside.new).seen (answer_of result) }
-    ensures heeds { Heeds (answer_to (reading_of (map string_bytes words.now.items))) (O.view outside.old).seen (O.view outside.new).seen (answer_of result) }
-    ensures same { (O.view outside.new).names ≡ (O.view outside.old).names }
-    ensures once { RunsOnce (O.view outside.old).seen.files (reading_of (map string_bytes words.now.items))
+    ensures ran { Ran (map string_bytes words.now.items)
+        (seen_of (L.files lib.old) (L.asked lib.old) (L.faults lib.old) (S.objects shelf.old) (S.faults shelf.old) (T.written notes.old) (T.faults notes.old))
+        (seen_of (L.files lib.new) (L.asked lib.new) (L.faults lib.new) (S.objects shelf.new) (S.faults shelf.new) (T.written notes.new) (T.faults notes.new))
+        (answer_of result) }
+    ensures once { RunsOnce (L.files lib.old) (reading_of (map string_bytes words.now.items))
         (B.made bench.new) (closed_by result) (answer_of result) }
     ensures idle { workers_in (reading_of (map string_bytes words.now.items)) ≡ 0 → B.made bench.new ≡ [] }
 {
+    each_number_is_taken_once();
     let command = read_words(alloc, words.as_slice())?;
-    obey(alloc, &command, outside, bench)
-}
-
-/// The answer of a run: Ok where it came through.
-pub(crate) fn answer(done: Result<(), Status>) -> Status
-    ensures { result ≡ answer_of done }
-{
-    match done {
-        Ok(()) => Status::Ok,
-        Err(status) => status,
+    if let Command::Make {
+        seed,
+        rows,
+        workers: _,
+    } = command
+    {
+        let closed = make(alloc, seed, rows, shelf, notes, bench)?;
+        return Ok(Some(closed));
     }
+    obey_over(alloc, &command, lib, shelf, notes, bench)
 }
 
 /// Carries out the command that the words say, over this outside. Where the library tells its files, the
@@ -148,23 +165,7 @@ pub fn run<L: Library, S: Shelf, T: Notes, B: Bench>(
         (flat_map B.made benches.new.items) end.new result }
     ensures idle { AreIdleFrom (workers_in (reading_of (map string_bytes words.now.items))) (map B.made benches.new.items) }
 {
-    each_number_is_taken_once();
-    let mut outside = Borrows {
-        library: lib,
-        shelf,
-        notes,
-    };
-    let done = try_run(alloc, words, &mut outside, &mut benches[0]);
-    let Borrows {
-        library,
-        shelf,
-        notes,
-    } = outside;
-    // The borrows end here.
-    let _library = library;
-    let _shelf = shelf;
-    let _notes = notes;
-    match done {
+    match try_run(alloc, words, lib, shelf, notes, &mut benches[0]) {
         Ok(closed) => {
             *end = closed;
             Status::Ok

@@ -14,15 +14,18 @@ mod frames;
 mod laws;
 pub mod limits;
 mod loading;
+mod make;
 mod outside;
 mod render;
 mod scene;
 mod scene_laws;
+mod shown;
 mod status;
+mod sums;
 mod texts;
 
 pub use benches::lane_benches;
-pub use calls::dry;
+pub use calls::{dry, make_alone, render_alone, show};
 pub use command::run;
 pub use drawing_laws::{
     drawings_are_asked_for_in_their_section, the_drawings_of_rows_are_loaded_once,
@@ -33,6 +36,7 @@ pub use laws::{
     a_good_scene_is_rendered, files_have_their_limits, only_a_good_scene_is_rendered,
     renders_show_the_rules,
 };
+pub use make::generated_scenes_are_rendered_whole;
 pub use scene_laws::scenes_without_a_file_are_told;
 pub use status::{Status, status_number};
 pub use texts::fault_text;

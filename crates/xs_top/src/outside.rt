@@ -14,6 +14,7 @@ ghost use Rattle.xs_levels.specs.Films.{Files};
 ghost use Rattle.xs_top.specs.Outcome.{asking, placing};
 
 use crate::status::Status;
+use crate::sums::Sum;
 use std::alloc::Global;
 use xs_base::List;
 use xs_levels::{FileTable, Loaded, Stock};
@@ -79,6 +80,10 @@ pub(crate) trait Outside {
         ensures keeps { Keeps (view self.old) (view self.new) (answer_of result) }
         ensures fails { Fails result };
 
+    /// The sum of the bytes of the pixels of all frames that were put on the shelf, where it is told.
+    fn sum(&self) -> Option<u64>
+        ensures { result ≡ (view self.now).seen.told.sum };
+
     /// Writes a line, or several with an end between each two.
     fn note(&mut self, alloc: Global, line: &[u8]) -> Result<(), Status>
         ensures wrote { Writes (line.now ∷ []) (view self.old).seen (view self.new).seen result }
@@ -88,17 +93,19 @@ pub(crate) trait Outside {
 }
 
 /// A library, a shelf and notes that are borrowed for a run.
-pub(crate) struct Borrows<'l, 's, 'n, L: Library, S: Shelf, T: Notes> {
+pub(crate) struct Borrows<'l, 's, 'n, L: Library, S: Shelf, T: Notes, A: Sum> {
     pub(crate) library: &'l mut L,
     pub(crate) shelf: &'s mut S,
     pub(crate) notes: &'n mut T,
+    /// The sum of the bytes of the pixels of all frames that were put on the shelf, where it is wanted.
+    pub(crate) sum: A,
 }
 
-impl<L: Library, S: Shelf, T: Notes> Outside for Borrows<'_, '_, '_, L, S, T> {
+impl<L: Library, S: Shelf, T: Notes, A: Sum> Outside for Borrows<'_, '_, '_, L, S, T, A> {
     ghost view = { λ o. record {
       seen = record {
         files = L.files o.library.now;
-        told = record { asked = L.asked o.library.now; shelf = S.objects o.shelf.now; notes = T.written o.notes.now };
+        told = record { asked = L.asked o.library.now; shelf = S.objects o.shelf.now; notes = T.written o.notes.now; sum = A.told o.sum };
         faults = record { library = L.faults o.library.now; shelf = S.faults o.shelf.now; notes = T.faults o.notes.now };
       };
       names = record { library = o.library.ghost_name; shelf = o.shelf.ghost_name; notes = o.notes.ghost_name };
@@ -134,10 +141,17 @@ impl<L: Library, S: Shelf, T: Notes> Outside for Borrows<'_, '_, '_, L, S, T> {
 
     fn place(&mut self, alloc: Global, name: &str, bytes: &[u8]) -> Result<(), Status> {
         match self.shelf.put(alloc, name, bytes) {
-            Put::Done => Ok(()),
+            Put::Done => {
+                self.sum.add(bytes);
+                Ok(())
+            }
             Put::Failed => Err(Status::WriteFault),
             Put::Memory => Err(Status::Memory),
         }
+    }
+
+    fn sum(&self) -> Option<u64> {
+        self.sum.total()
     }
 
     fn note(&mut self, alloc: Global, line: &[u8]) -> Result<(), Status> {

@@ -21,7 +21,7 @@ ghost use Rattle.xs_top.specs.Causes.{answer_of, is_of_words, Fails};
 ghost use Rattle.xs_top.specs.Drawings.{pictures_of, bytes_held_over};
 ghost use Rattle.xs_top.specs.Leaves.{Keeps, Leaves, Quiet};
 ghost use Rattle.xs_top.specs.Once.{ComputedOnce, IsClosedOf, NoneTwice};
-ghost use Rattle.xs_top.specs.Outcome.{rendered_line, rendering, rendering_rows, rendering_section, rendering_sections};
+ghost use Rattle.xs_top.specs.Outcome.{rendered_line, rendering, rendering_section, rendering_sections};
 ghost use Rattle.xs_top.specs.Runs.{Does, Ends};
 ghost use Rattle.xs_top.specs.Writes.{Writes};
 
@@ -186,7 +186,7 @@ fn render_sections<K: Film, D: Desk<K>, O: Outside, B: Bench>(
 }
 
 /// Renders the rows of a scene's plan in a cache of it, under a film of the scene's pictures.
-fn render_rows<K: Film, O: Outside, B: Bench>(
+pub(crate) fn render_rows<K: Film, O: Outside, B: Bench>(
     alloc: Global,
     good: &GoodScene,
     p: &Plan,

@@ -36,21 +36,21 @@ returns-in_err-closed-in-Render-clause-undone g c =
 
 -- ---- a scene that is shown
 
-pub returns-in_ok-show-in-Show-clause-did : goal.returns-in_ok-show-in-Show-clause-did
+pub returns-in_ok-show_scene-in-Show-clause-did : goal.returns-in_ok-show_scene-in-Show-clause-did
 unfolding commanding
-returns-in_ok-show-in-Show-clause-did g c = λ files e. rw c.in-Show.is (c.in_ok-show-in-Show.ensures.did files e)
+returns-in_ok-show_scene-in-Show-clause-did g c = λ files e. rw c.in-Show.is (c.in_ok-show_scene-in-Show.ensures.did files e)
 
-pub returns-in_err-show-in-Show-clause-did : goal.returns-in_err-show-in-Show-clause-did
+pub returns-in_err-show_scene-in-Show-clause-did : goal.returns-in_err-show_scene-in-Show-clause-did
 unfolding commanding
-returns-in_err-show-in-Show-clause-did g c = λ files e.
-    let p = err_from_is_err_and c.from_residual-in_err-show-in-Show.result c.from_residual-in_err-show-in-Show.ensures.1 in
-    rw (c.in-Show.is, p.1, p.2) (c.in_err-show-in-Show.ensures.did files e)
+returns-in_err-show_scene-in-Show-clause-did g c = λ files e.
+    let p = err_from_is_err_and c.from_residual-in_err-show_scene-in-Show.result c.from_residual-in_err-show_scene-in-Show.ensures.1 in
+    rw (c.in-Show.is, p.1, p.2) (c.in_err-show_scene-in-Show.ensures.did files e)
 
-pub returns-in_err-show-in-Show-clause-undone : goal.returns-in_err-show-in-Show-clause-undone
-returns-in_err-show-in-Show-clause-undone g c =
-    let p = err_from_is_err_and c.from_residual-in_err-show-in-Show.result c.from_residual-in_err-show-in-Show.ensures.1 in
+pub returns-in_err-show_scene-in-Show-clause-undone : goal.returns-in_err-show_scene-in-Show-clause-undone
+returns-in_err-show_scene-in-Show-clause-undone g c =
+    let p = err_from_is_err_and c.from_residual-in_err-show_scene-in-Show.result c.from_residual-in_err-show_scene-in-Show.ensures.1 in
     rw (p.1, p.2) (undone_quietly (λ files. commanding files c.args.command.now) (λ files. command_line files c.args.command.now)
-    (g.O.Outside.view c.args.outside.now).seen (g.O.Outside.view c.show.new.outside).seen _ c.in_err-show-in-Show.ensures.quiet)
+    (g.O.Outside.view c.args.outside.now).seen (g.O.Outside.view c.show_scene.new.outside).seen _ c.in_err-show_scene-in-Show.ensures.quiet)
 
 -- ---- a dry run
 
@@ -72,25 +72,12 @@ returns-in_err-demand-in-Dry-clause-undone g c =
 
 -- ---- commands that are not built yet
 
-pub returns-in-Make-clause-did : goal.returns-in-Make-clause-did
-unfolding commanding
-returns-in-Make-clause-did g c = λ files e. rw c.in-Make.is (stopped_whole _ _ _ _ refl (did_nothing _ _))
-
-pub returns-in-Make-clause-heeds : goal.returns-in-Make-clause-heeds
-returns-in-Make-clause-heeds g c = rw c.in-Make.is (unbuilt_heeded _)
-
 pub returns-in-Again-clause-did : goal.returns-in-Again-clause-did
 unfolding commanding
 returns-in-Again-clause-did g c = λ files e. rw c.in-Again.is (stopped_whole _ _ _ _ refl (did_nothing _ _))
 
 pub returns-in-Again-clause-heeds : goal.returns-in-Again-clause-heeds
 returns-in-Again-clause-heeds g c = rw c.in-Again.is (unbuilt_heeded _)
-
-pub returns-in-Make-clause-quiet : goal.returns-in-Make-clause-quiet
-returns-in-Make-clause-quiet g c = λ many silent. refl
-
-pub returns-in-Make-clause-undone : goal.returns-in-Make-clause-undone
-returns-in-Make-clause-undone g c = λ files told written notes memory. absurd cc
 
 pub returns-in-Again-clause-quiet : goal.returns-in-Again-clause-quiet
 returns-in-Again-clause-quiet g c = λ many silent. refl

@@ -5,7 +5,7 @@ use Rattle.xs_top.specs.Trace.{ended}
 use Rattle.xs_top.specs.Outcome.{showing, showing_scene}
 use Rattle.xs_top.proofs.Parts.{runs_then, stopped_memory, leaves_nothing, leaves_then, quiet_then}
 use Rattle.xs_top.proofs.Writing.{writes_run, writes_inside, line_quiet}
-use Rattle.xs_top.proofs.command.show.Goals as goal
+use Rattle.xs_top.proofs.shown.show_scene.Goals as goal
 
 pub returns-in_err-good-clause-did : goal.returns-in_err-good-clause-did
 unfolding showing

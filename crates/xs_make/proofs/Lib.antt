@@ -1,0 +1,9 @@
+mod Drawn
+mod Names
+mod Parts
+mod Plain
+mod Raws
+mod Found
+mod Accepted
+mod Faultless
+mod FewAliases
