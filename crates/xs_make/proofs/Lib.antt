@@ -2,6 +2,7 @@ mod Drawn
 mod Names
 mod Parts
 mod Plain
+mod Ranged
 mod Raws
 mod Found
 mod Accepted

@@ -6,7 +6,7 @@ use Rattle.xs_scene.specs.Ranges.{HasNoKey, HasNoLine, HasNoLines, HasOldNodes, 
 use Rattle.xs_scene.specs.Records.{PegKeyRecord}
 use Rattle.xs_make.specs.Scenes.{key_from, keys_of, made_node, palette_from, peg_from, sheet_from}
 
-each : {A : Type 0} (P : A → Type 0) (x : A) → P x → All P (x ∷ [])
+pub each : {A : Type 0} (P : A → Type 0) (x : A) → P x → All P (x ∷ [])
 each P x holds = All-cons P x [] holds (All-nil P)
 
 peg_has_no_line : (x count : ℕ) → HasNoLine (peg_from x count)

@@ -14,6 +14,7 @@ ghost use Rattle.xs_meaning.specs.Expressions.{drawings_of, root_of};
 ghost use Rattle.xs_outside.specs.Files.{file_in};
 ghost use Rattle.xs_rawfile.specs.Level.{first_fault as first_file_fault};
 ghost use Rattle.xs_plan.specs.Needed.{picture_bytes};
+ghost use Rattle.xs_scene.specs.InRange.{IsInRange};
 ghost use Rattle.xs_rect.specs.Tiles.{tile_areas};
 
 use xs_demand::aliases::rows_add_few;
@@ -23,6 +24,11 @@ use xs_rawfile::level_format;
 /// Checking finds no fault in a generated scene, whatever its seed and however many rows it has.
 pub fn generated_scenes_have_no_fault()
     ensures { (seed rows : ℕ) → first_fault (scene_from seed rows) ≡ None }
+{}
+
+/// The numbers of a generated scene are in their ranges.
+pub fn generated_scenes_are_in_range()
+    ensures { (seed rows : ℕ) → 1 ≤ rows → rows ≤ MOST_GENERATED_ROWS → IsInRange (scene_from seed rows) }
 {}
 
 /// The file of each drawing of a generated scene is among those that are generated with it. It is no longer than such a
@@ -42,7 +48,7 @@ pub fn generated_files_are_accepted()
     level_format();
 }
 
-/// A row of a generated scene shows few drawings.
+/// A row of a generated scene shows at most nine drawings, each counted as often as it is shown.
 pub fn generated_rows_show_few_drawings()
     ensures { (seed rows row : ℕ) → length (drawings_of (root_of (scene_from seed rows) row)) ≤ 9 }
 {}

@@ -83,8 +83,8 @@ module _ (seed rows : ℕ) (small : (d : ℕ) → bytes_of (made_files seed) (sc
       over_few news (bytes_held_over (made_files seed) s (plan_in s 1 rows) section) (omega (arith, held, fewer, most, eight))
 
   -- no section holds too many bytes
-  pub few_bytes : All (λ (load : Load). load.1 ≤ MOST_SECTION_BYTES) (loads (made_files seed) (scene_from seed rows) 1 rows)
-  few_bytes =
+  pub sections_within : All (λ (load : Load). load.1 ≤ MOST_SECTION_BYTES) (loads (made_files seed) (scene_from seed rows) 1 rows)
+  sections_within =
       all_flat (λ (load : Load). load.1 ≤ MOST_SECTION_BYTES) (loads_in (made_files seed) (scene_from seed rows) 1 rows)
       (range_with_len 0 (sections_in 1 rows)) section_few
 

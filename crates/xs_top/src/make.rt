@@ -4,7 +4,6 @@ ghost use Rattle.std.specs.Prelude.{◌≡◌, ◌≤◌, ◌∷◌, [], IfOk, S
 ghost use Rattle.xs_base.specs.declared.limits.TheConstants.{MOST_GENERATED_ROWS};
 ghost use Rattle.xs_levels.specs.Films.{Files};
 ghost use Rattle.xs_make.specs.Scenes.{scene_from};
-ghost use Rattle.xs_scene.specs.InRange.{IsInRange};
 ghost use Rattle.xs_top.specs.Causes.{answer_of, is_of_words, Fails};
 ghost use Rattle.xs_top.specs.Generated.{made_base, made_files, made_line};
 ghost use Rattle.xs_top.specs.Leaves.{Leaves, Quiet};
@@ -33,7 +32,7 @@ use xs_dryrun::plan;
 use xs_levels::laws::pictures_of_files_are_coloured_as_written;
 use xs_make::laws::{
     generated_files_are_accepted, generated_rows_pass_no_limit, generated_rows_show_few_drawings,
-    generated_scenes_have_no_fault,
+    generated_scenes_are_in_range, generated_scenes_have_no_fault,
 };
 use xs_make::{MadeLibrary, made};
 use xs_meaning::expressions::frames_hold_pixels;
@@ -43,16 +42,16 @@ use xs_render::sections_of_a_plan_are_those_of_its_rows;
 use xs_scene::Name;
 use xs_word_desk::Closed;
 
-/// The rows of a generated scene, whose numbers are in their ranges, are rendered whole: its outcome ends well, with exactly
-/// its frames and one line, and the sum of their pixels is a number of 64 bits.
+/// The rows of a generated scene are rendered whole: its outcome ends well, with exactly its frames and one line, and the
+/// sum of their pixels is a number of 64 bits.
 pub fn generated_scenes_are_rendered_whole()
-    ensures { (seed rows : ℕ) → 1 ≤ rows → rows ≤ MOST_GENERATED_ROWS → IsInRange (scene_from seed rows)
-        → RendersWhole seed rows }
+    ensures { (seed rows : ℕ) → 1 ≤ rows → rows ≤ MOST_GENERATED_ROWS → RendersWhole seed rows }
 {
     each_number_is_taken_once();
     frames_hold_pixels();
     scenes_without_a_fault_are_good();
     drawings_of_rows_are_there();
+    generated_scenes_are_in_range();
     generated_scenes_have_no_fault();
     generated_files_are_accepted();
     generated_rows_show_few_drawings();
@@ -124,8 +123,6 @@ fn make_rows<O: Outside, B: Bench>(
     generated_scenes_are_rendered_whole();
     a_shown_plan_is_the_plan();
     sections_of_a_plan_are_those_of_its_rows();
-    // the numbers of a scene are in their ranges
-    good.scene().in_range();
     let p = plan(alloc, good, 1, rows)?;
     let base = made_base(alloc)?;
     let closed = render_rows::<Brand, O, B>(alloc, good, &p, 1, &base, outside, bench)?;
@@ -157,8 +154,6 @@ pub(crate) fn make<S: Shelf, T: Notes, B: Bench>(
 {
     generated_scenes_are_rendered_whole();
     let generated = made(alloc, seed, rows)?;
-    // the numbers of a scene are in their ranges
-    generated.scene.scene().in_range();
     let mut library = MadeLibrary::new(alloc, generated.files);
     let mut outside = Borrows {
         library: &mut library,

@@ -1,8 +1,6 @@
-use Rattle.std.proofs.Common.{◌≡◌, ◌∙◌, Some, refl, ap, subst, rules}
+use Rattle.std.proofs.Common.{◌≡◌, ◌∙◌, Some, refl, ap, rules}
 use Rattle.std.proofs.lemmas.Result.{err_from_is_err_and}
 use Rattle.xs_outside.specs.Files.{file_in}
-use Rattle.xs_scene.specs.InRange.{IsInRange}
-use Rattle.xs_scene.specs.Records.{SceneRecord}
 use Rattle.xs_top.proofs.Making.{making_wanted, ran_beside}
 use Rattle.xs_top.proofs.make.make.Goals as goal
 
@@ -18,8 +16,7 @@ pub returns-clause-ran : goal.returns-clause-ran
 returns-clause-ran g c = λ files asked faults.
     let done = c.make_rows-done.ensures in
     let same = done.same in
-    let ranges = subst (λ (s : SceneRecord). IsInRange s) (c.scene.ensures.value ∙ c.in_ok-generated.ensures.scene) c.in_range.ensures in
-    let whole = c.generated_scenes_are_rendered_whole.ensures c.args.seed c.args.rows c.requires.least c.requires.most ranges in
+    let whole = c.generated_scenes_are_rendered_whole.ensures c.args.seed c.args.rows c.requires.least c.requires.most in
     let told = ap (λ l. Some (file_in l)) (c.new-library.ensures ∙ c.in_ok-generated.ensures.files) in
     let shelf : c.shelf-1.given.0 ≡ c.make_rows-done.new.outside.shelf.now = search rules in
     let notes : c.notes-1.given.0 ≡ c.make_rows-done.new.outside.notes.now = search rules in

@@ -1,12 +1,10 @@
-use Rattle.std.proofs.Common.{◌≡◌, ◌∙◌, ◌+◌, ◌-◌, Ok, Err, refl, sym, ap, subst, arith}
+use Rattle.std.proofs.Common.{◌≡◌, ◌∙◌, ◌+◌, ◌-◌, Ok, Err, refl, sym, ap, arith}
 use Rattle.std.proofs.lemmas.Result.{err_from_is_err_and}
 use Rattle.xs_make.specs.Scenes.{scene_from}
 use Rattle.xs_plan.specs.Record.{rows_in}
 use Rattle.xs_top.specs.Demand.{plan_in}
 use Rattle.xs_top.specs.Generated.{made_files, made_sum}
 use Rattle.xs_top.specs.Outcome.{summing}
-use Rattle.xs_scene.specs.InRange.{IsInRange}
-use Rattle.xs_scene.specs.Records.{SceneRecord}
 use Rattle.xs_top.proofs.Demanding.{computed_rows}
 use Rattle.xs_top.proofs.Making.{making_unplanned, making_shown, making_noted, made_total}
 use Rattle.xs_top.proofs.Parts.{did_to, did_then, stopped_here, stopped_then, leaves_then, quiet_then}
@@ -63,8 +61,7 @@ returns-in_err-note_made-clause-did g c = λ files e.
     let run = c.in_ok-closed.ensures.did c.args.rows all c.requires.least (made_files c.args.seed) c.requires.files
     (summing c.args.seed c.args.rows (plan_in scene 1 c.args.rows)) in
     let did = rw (c.requires.scene, c.in_ok-base.ensures, ← shown) at run in
-    let ranges = subst (λ (s : SceneRecord). IsInRange s) (c.scene.ensures.value ∙ c.requires.scene) c.in_range.ensures in
-    let whole = c.generated_scenes_are_rendered_whole.ensures c.args.seed c.args.rows c.requires.least c.requires.most ranges in
+    let whole = c.generated_scenes_are_rendered_whole.ensures c.args.seed c.args.rows c.requires.least c.requires.most in
     let told = c.sum.ensures ∙ made_total c.args.seed c.args.rows whole _ _ did c.requires.sum in
     let total : c.unwrap_or-total.result ≡ made_sum c.args.seed c.args.rows = rw told at c.unwrap_or-total.ensures in
     rw (p.1, p.2)
@@ -98,8 +95,7 @@ returns-clause-did g c = λ files e.
     let run = c.in_ok-closed.ensures.did c.args.rows all c.requires.least (made_files c.args.seed) c.requires.files
     (summing c.args.seed c.args.rows (plan_in scene 1 c.args.rows)) in
     let did = rw (c.requires.scene, c.in_ok-base.ensures, ← shown) at run in
-    let ranges = subst (λ (s : SceneRecord). IsInRange s) (c.scene.ensures.value ∙ c.requires.scene) c.in_range.ensures in
-    let whole = c.generated_scenes_are_rendered_whole.ensures c.args.seed c.args.rows c.requires.least c.requires.most ranges in
+    let whole = c.generated_scenes_are_rendered_whole.ensures c.args.seed c.args.rows c.requires.least c.requires.most in
     let told = c.sum.ensures ∙ made_total c.args.seed c.args.rows whole _ _ did c.requires.sum in
     let total : c.unwrap_or-total.result ≡ made_sum c.args.seed c.args.rows = rw told at c.unwrap_or-total.ensures in
     did_then did
