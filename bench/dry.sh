@@ -62,7 +62,18 @@ def filtered(n):
 save("wide-card", [placed(n) for n in range(3)] + [{"columns": [], "nodes": [CARD], "out": [node(0)]}])
 save("wide-filters", [filtered(n) for n in range(3)] + [{"columns": [drawing()]}], levels=cm32)
 
-# Two places of a nested sheet of 82 columns, each of which moves at a speed of its own, before four tiles.
+# Two places of a nested sheet: a held background, and a drawing on twos that is on ones in the last rows; before the
+# 510 tiles of a frame of 1920 by 1080.
+exposures = [(2 * n + 1, 2 * n + 2) for n in range(251)] + [(503 + n, 503 + n) for n in range(10)]
+cels = {"cells": [{"from": a, "to": b, "level": 1, "drawing": n} for n, (a, b) in enumerate(exposures)]}
+places = [{"keys": [{"row": 1, "x": x, "y": 0}]} for x in (0, 99)]
+twice = {"pegs": places, "columns": [shown(1, rows=512, peg=k) for k in range(2)]}
+levels = [{"kind": "colour", "drawings": ["sky.xrl"]},
+          {"kind": "colour", "drawings": ["cel.%04d.xrl" % n for n in range(261)]}]
+save("nested", [twice, {"columns": [drawing(512), cels]}], w=1920, h=1080, levels=levels)
+
+# Two places of a nested sheet of 82 columns, each of which moves at a speed of its own, before four tiles: nearly all
+# that is demanded is new in each row.
 def moving(speed):
     return {"keys": [{"row": 1, "x": 0, "y": 0, "line": True}, {"row": 513, "x": 512 * speed, "y": 0}]}
 
@@ -70,13 +81,16 @@ inner = {"pegs": [moving(k + 1) for k in range(82)],
          "columns": [dict(drawing(512), peg=k) for k in range(82)]}
 outer = {"pegs": [{"keys": [{"row": 1, "x": 0, "y": y}]} for y in (0, 9)],
          "columns": [shown(1, rows=512, peg=k) for k in range(2)]}
-save("lines", [outer, inner], w=128, h=128)
+save("moving", [outer, inner], w=128, h=128)
 END
 for scene in sheets nodes filters wide-card wide-filters; do
     printf '%-14s' "$scene"
     "$program" dry "$scene.json" 1 1 | sed -n 1p
 done
-for time in 1 2 3 4 5; do
-    "$program" dry-lines lines.json 1 512 >lines
+for scene in nested moving; do
+    for time in 1 2 3 4 5; do
+        printf '%-14s' "$scene"
+        "$program" dry-lines "$scene.json" 1 512 2>&1 >lines
+    done
 done
 "$program" dry-most

@@ -4,17 +4,23 @@
 #![tactic(auto)]
 
 #[cfg(test)]
+mod cut_out;
+#[cfg(test)]
 mod demand;
 #[cfg(test)]
 mod direct;
 #[cfg(test)]
 mod index;
 #[cfg(test)]
+mod made_frames;
+#[cfg(test)]
 mod making;
 #[cfg(test)]
 mod needs;
 #[cfg(test)]
 mod plan;
+#[cfg(test)]
+mod rendering;
 #[cfg(test)]
 mod scenes;
 #[cfg(test)]

@@ -3,65 +3,42 @@
 ghost use Rattle.std.specs.Prelude.{◌≡◌, [], All, None, length};
 ghost use Rattle.xs_base.specs.declared.limits.TheConstants.{MOST_WORKERS};
 
+use crate::rendering::{Left, are_equal, run_by};
 use crate::top::plain_benches;
 use std::alloc::Global;
 use std::test::Fail;
-use xs_bench::{Bench, LaneBench, PlainBench};
+use xs_bench::{Bench, LaneBench};
 use xs_outside::{MemLibrary, MemNotes, MemShelf};
-use xs_top::{lane_benches, make_alone, run, status_number};
-use xs_word_desk::Closed;
+use xs_top::{lane_benches, make_alone, status_number};
 
-/// The status of a scene that is made by benches from words, and what stands on the shelf and in the notes. The library
-/// has no file, and each of its calls would fail.
+/// What rows of a generated scene leave by benches. The library has no file, and each of its calls would fail.
 fn made_by<B: Bench>(
     alloc: Global,
-    seed: &str,
-    rows: &str,
+    line: &str,
     fails: &[u64],
     benches: &mut Vec<B>,
-    end: &mut Option<Closed>,
-) -> Result<(u8, MemShelf, MemNotes), Fail>
+) -> Result<Left, Fail>
     requires benches { length benches.old.items ≡ MOST_WORKERS }
     requires unused { All (λ bench. B.made bench ≡ []) benches.old.items }
-    requires open { end.old ≡ None }
 {
-    let mut words = Vec::new(alloc);
-    for word in ["make", seed, rows, "1"] {
-        words.push(String::from_str(alloc, word)?)?;
-    }
-    let mut library = MemLibrary::new(alloc, Vec::new(alloc), Vec::from_slice(alloc, &[1])?);
-    let mut shelf = MemShelf::new(alloc, Vec::from_slice(alloc, fails)?);
-    let mut notes = MemNotes::new(alloc, Vec::new(alloc));
-    let status = run(
-        alloc,
-        &words,
-        &mut library,
-        &mut shelf,
-        &mut notes,
-        benches,
-        end,
-    );
-    Ok((status_number(&status), shelf, notes))
+    let library = MemLibrary::new(alloc, Vec::new(alloc), Vec::from_slice(alloc, &[1])?);
+    let shelf = MemShelf::new(alloc, Vec::from_slice(alloc, fails)?);
+    run_by(alloc, line, library, shelf, benches, &mut None)
 }
 
 /// The same by benches of lanes.
-fn made(
-    alloc: Global,
-    seed: &str,
-    rows: &str,
-    fails: &[u64],
-) -> Result<(u8, MemShelf, MemNotes), Fail> {
+fn made(alloc: Global, line: &str, fails: &[u64]) -> Result<Left, Fail> {
     let mut benches = lane_benches(alloc)?;
-    made_by(alloc, seed, rows, fails, &mut benches, &mut None)
+    made_by(alloc, line, fails, &mut benches)
 }
 
 #[test]
 fn a_generated_scene_is_rendered_and_its_pixels_are_summed(rt: HostRuntime) -> Result<(), Fail> {
-    let (status, shelf, notes) = made(rt.alloc(), "7", "2", &[])?;
-    assert_eq!(rt; status, 0);
-    assert_eq!(rt; shelf.objects().len(), 2);
+    let left = made(rt.alloc(), "make 7 2 1", &[])?;
+    assert_eq!(rt; left.status, 0);
+    assert_eq!(rt; left.shelf.objects().len(), 2);
     assert_eq!(rt;
-        notes.bytes(),
+        left.notes.bytes(),
         b"made seed 7, 2 rows, 48 aliases, 60 reads, sum 31395516\n".as_slice()
     );
     Ok(())
@@ -69,35 +46,33 @@ fn a_generated_scene_is_rendered_and_its_pixels_are_summed(rt: HostRuntime) -> R
 
 #[test]
 fn many_rows_of_a_seed_are_the_same_each_time(rt: HostRuntime) -> Result<(), Fail> {
-    let (status, _shelf, once) = made(rt.alloc(), "7", "240", &[])?;
-    let (other, _shelf, again) = made(rt.alloc(), "7", "240", &[])?;
-    assert_eq!(rt; status, 0);
-    assert_eq!(rt; other, 0);
-    assert!(rt; once.bytes().len() > 60);
-    assert_eq!(rt; once.bytes(), again.bytes());
+    let once = made(rt.alloc(), "make 7 240 1", &[])?;
+    let again = made(rt.alloc(), "make 7 240 1", &[])?;
+    assert_eq!(rt; once.status, 0);
+    assert_eq!(rt; again.status, 0);
+    assert!(rt; once.notes.bytes().len() > 60);
+    assert_eq!(rt; once.notes.bytes(), again.notes.bytes());
     Ok(())
 }
 
 #[test]
 fn a_frame_that_is_not_taken_ends_a_generated_scene(rt: HostRuntime) -> Result<(), Fail> {
-    let (status, shelf, notes) = made(rt.alloc(), "0", "9", &[3])?;
-    assert_eq!(rt; status, 5);
-    assert_eq!(rt; shelf.objects().len(), 2);
-    assert_eq!(rt; notes.bytes().len(), 0);
+    let left = made(rt.alloc(), "make 0 9 1", &[3])?;
+    assert_eq!(rt; left.status, 5);
+    assert_eq!(rt; left.shelf.objects().len(), 2);
+    assert_eq!(rt; left.notes.bytes().len(), 0);
     Ok(())
 }
 
 #[test]
 fn plain_benches_make_the_same_frames(rt: HostRuntime) -> Result<(), Fail> {
-    let (_status, fast, line) = made(rt.alloc(), "3", "3", &[])?;
+    let fast = made(rt.alloc(), "make 3 3 1", &[])?;
     let mut benches = plain_benches(rt.alloc())?;
-    let (status, plain, other) = made_by(rt.alloc(), "3", "3", &[], &mut benches, &mut None)?;
-    assert_eq!(rt; status, 0);
-    assert_eq!(rt; line.bytes(), other.bytes());
-    assert_eq!(rt; plain.objects().len(), 3);
-    for (one, other) in fast.objects().iter().zip(plain.objects()) {
-        assert!(rt; one.bytes.items() == other.bytes.items());
-    }
+    let plain = made_by(rt.alloc(), "make 3 3 1", &[], &mut benches)?;
+    assert_eq!(rt; plain.status, 0);
+    assert_eq!(rt; fast.notes.bytes(), plain.notes.bytes());
+    assert_eq!(rt; plain.shelf.objects().len(), 3);
+    assert!(rt; are_equal(&fast.shelf, &plain.shelf));
     Ok(())
 }
 

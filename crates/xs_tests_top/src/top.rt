@@ -3,13 +3,14 @@
 ghost use Rattle.std.specs.Prelude.{◌≡◌, [], All, IfOk, None, length};
 ghost use Rattle.xs_base.specs.declared.limits.TheConstants.{MOST_WORKERS};
 
+use crate::rendering::{Left, are_equal, run_by};
 use std::alloc::Global;
 use std::test::Fail;
 use xs_base::Memory;
 use xs_base::limits::MOST_WORKERS;
 use xs_bench::{Bench, LaneBench, PlainBench, ShortBench};
-use xs_outside::{MemLibrary, MemNotes, MemShelf, Object};
-use xs_top::{lane_benches, run, status_number};
+use xs_outside::{MemLibrary, MemShelf, Object};
+use xs_top::lane_benches;
 use xs_word_desk::Closed;
 
 /// A drawing on rows 8 and 9, before a camera of one pixel.
@@ -19,42 +20,34 @@ const SCENE: &str =
 /// A drawing of one pixel at the point (0, 0).
 const PIXEL: &[u8] = b"XRL1\0\0\0\0\0\0\0\0\0\x01\0\0\0\x01\0\0\0\x0a\x14\x1e\xff";
 
-/// The status of a render of rows 8 to 16 by benches over a library whose calls of these numbers fail, and what stands
-/// on the shelf and in the notes.
+/// What a render of rows 8 to 16 leaves by benches over a library whose calls of these numbers fail.
 fn rendered_by<B: Bench>(
     alloc: Global,
     fails: &[u64],
     benches: &mut Vec<B>,
     end: &mut Option<Closed>,
-) -> Result<(u8, MemShelf, MemNotes), Fail>
+) -> Result<Left, Fail>
     requires benches { length benches.old.items ≡ MOST_WORKERS }
     requires unused { All (λ bench. B.made bench ≡ []) benches.old.items }
     requires open { end.old ≡ None }
 {
-    let mut words = Vec::new(alloc);
-    for word in ["render", "one.json", "8", "16", "1", "f"] {
-        words.push(String::from_str(alloc, word)?)?;
-    }
     let mut files = Vec::new(alloc);
     files.push(Object::new(alloc, "one.json", SCENE.as_bytes())?)?;
     files.push(Object::new(alloc, "d.xrl", PIXEL)?)?;
-    let mut library = MemLibrary::new(alloc, files, Vec::from_slice(alloc, fails)?);
-    let mut shelf = MemShelf::new(alloc, Vec::new(alloc));
-    let mut notes = MemNotes::new(alloc, Vec::new(alloc));
-    let status = run(
+    let library = MemLibrary::new(alloc, files, Vec::from_slice(alloc, fails)?);
+    let shelf = MemShelf::new(alloc, Vec::new(alloc));
+    run_by(
         alloc,
-        &words,
-        &mut library,
-        &mut shelf,
-        &mut notes,
+        "render one.json 8 16 1 f",
+        library,
+        shelf,
         benches,
         end,
-    );
-    Ok((status_number(&status), shelf, notes))
+    )
 }
 
 /// The same by benches of lanes.
-fn rendered(alloc: Global, fails: &[u64]) -> Result<(u8, MemShelf, MemNotes), Fail> {
+fn rendered(alloc: Global, fails: &[u64]) -> Result<Left, Fail> {
     let mut benches = lane_benches(alloc)?;
     rendered_by(alloc, fails, &mut benches, &mut None)
 }
@@ -91,11 +84,11 @@ fn computed<B: Bench>(benches: &Vec<B>, i: usize) -> Option<usize> {
 
 #[test]
 fn rows_of_two_sections_are_rendered(rt: HostRuntime) -> Result<(), Fail> {
-    let (status, shelf, notes) = rendered(rt.alloc(), &[])?;
-    assert_eq!(rt; status, 0);
-    assert_eq!(rt; shelf.objects().len(), 9);
+    let left = rendered(rt.alloc(), &[])?;
+    assert_eq!(rt; left.status, 0);
+    assert_eq!(rt; left.shelf.objects().len(), 9);
     assert_eq!(rt;
-        notes.bytes(),
+        left.notes.bytes(),
         b"rendered 9 rows, 2 aliases, 9 reads\n".as_slice()
     );
     Ok(())
@@ -103,10 +96,10 @@ fn rows_of_two_sections_are_rendered(rt: HostRuntime) -> Result<(), Fail> {
 
 #[test]
 fn a_failing_library_leaves_no_frame(rt: HostRuntime) -> Result<(), Fail> {
-    let (status, shelf, notes) = rendered(rt.alloc(), &[2])?;
-    assert_eq!(rt; status, 4);
-    assert_eq!(rt; shelf.objects().len(), 0);
-    assert_eq!(rt; notes.bytes().len(), 0);
+    let left = rendered(rt.alloc(), &[2])?;
+    assert_eq!(rt; left.status, 4);
+    assert_eq!(rt; left.shelf.objects().len(), 0);
+    assert_eq!(rt; left.notes.bytes().len(), 0);
     Ok(())
 }
 
@@ -116,8 +109,8 @@ fn the_first_bench_computes_each_alias_and_the_cache_is_left_empty(
 ) -> Result<(), Fail> {
     let mut benches = lane_benches(rt.alloc())?;
     let mut end = None;
-    let (status, _shelf, _notes) = rendered_by(rt.alloc(), &[], &mut benches, &mut end)?;
-    assert_eq!(rt; status, 0);
+    let left = rendered_by(rt.alloc(), &[], &mut benches, &mut end)?;
+    assert_eq!(rt; left.status, 0);
     assert_eq!(rt; computed(&benches, 0), Some(2));
     assert_eq!(rt; computed(&benches, 1), Some(0));
     let closed = end.ok_or("a closing record")?;
@@ -127,18 +120,12 @@ fn the_first_bench_computes_each_alias_and_the_cache_is_left_empty(
 
 #[test]
 pub(crate) fn plain_benches_render_the_same_frames(rt: HostRuntime) -> Result<(), Fail> {
-    let (_status, fast, _notes) = rendered(rt.alloc(), &[])?;
+    let fast = rendered(rt.alloc(), &[])?;
     let mut benches = plain_benches(rt.alloc())?;
-    let (status, plain, _notes) = rendered_by(rt.alloc(), &[], &mut benches, &mut None)?;
-    assert_eq!(rt; status, 0);
-    assert_eq!(rt; plain.objects().len(), 9);
-    assert_eq!(rt; fast.objects().len(), 9);
-    for i in 0..9 {
-        let (Some(one), Some(other)) = (fast.objects().get(i), plain.objects().get(i)) else {
-            return Err(Fail::from("nine frames"));
-        };
-        assert!(rt; one.bytes.items() == other.bytes.items());
-    }
+    let plain = rendered_by(rt.alloc(), &[], &mut benches, &mut None)?;
+    assert_eq!(rt; plain.status, 0);
+    assert_eq!(rt; plain.shelf.objects().len(), 9);
+    assert!(rt; are_equal(&fast.shelf, &plain.shelf));
     Ok(())
 }
 
@@ -146,8 +133,8 @@ pub(crate) fn plain_benches_render_the_same_frames(rt: HostRuntime) -> Result<()
 fn left_by_short_benches(alloc: Global, at: u64) -> Result<(u8, usize, bool), Fail> {
     let mut benches = short_benches(alloc, at)?;
     let mut end = None;
-    let (status, shelf, _notes) = rendered_by(alloc, &[], &mut benches, &mut end)?;
-    Ok((status, shelf.objects().len(), end.is_some()))
+    let left = rendered_by(alloc, &[], &mut benches, &mut end)?;
+    Ok((left.status, left.shelf.objects().len(), end.is_some()))
 }
 
 #[test]
