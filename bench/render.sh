@@ -1,17 +1,21 @@
 #!/bin/sh
 # Times whole renders with files in memory, each beside a floor: a program that reads the same files and writes frames of
 # the same sizes, and does nothing else. Folders are empty at the start, runs take turns, and medians of five are printed,
-# with the most memory that the renderer held. The scenes and their files are made in a folder that is removed afterwards.
-# The program is proved and built first if need be.
+# with the most memory that the renderer held. Then where the time of a render by one worker goes, in milliseconds: reading
+# and checking the scene, planning, the files, computing tiles, writing, and the rest; and how long the operations of the
+# chain and of the blurs take to compute beside their kernel calls alone (the goal is 1.3 at most), medians of five again.
+# The scenes and their files are made in a folder that is removed afterwards. The programs are proved and built first if
+# need be.
 #
 #     bench/render.sh [WORKERS]
-#     XS_MAIN=PATH bench/render.sh
+#     XS_MAIN=PATH XS_TIMING=PATH bench/render.sh
 set -eu
 top=$(cd "$(dirname "$0")/.." && pwd)
 workers=${1:-1}
 work=$(mktemp -d -p "$(test -d /dev/shm && echo /dev/shm || echo /tmp)")
 trap 'rm -rf "$work"' EXIT
 program=$("$top/bench/program.sh" xs_main)
+timing=$("$top/bench/program.sh" xs_timing)
 "${CC:-cc}" -O2 -o "$work/floor" "$top/bench/floor.c"
 cd "$work"
 python3 - <<'END'
@@ -68,13 +72,18 @@ save("blurs", 640, 360, [(0, ["small.xrl"])], {"columns": [held(0, 8)],
      "nodes": [{"op": "blur", "input": ref(n), "radius": 8} for n in range(8)], "out": [{"node": 7}]})
 END
 cat >time.py <<'END'
-import glob, os, resource, statistics, subprocess, sys, time
+import glob, os, re, statistics, subprocess, sys, time
 
-program, workers = sys.argv[1:]
+program, timing, workers = sys.argv[1:]
+TIMES = range(5)
+
+def clean():
+    for name in glob.glob("*.xfr"):
+        os.remove(name)
 
 def run(words):
-    for name in glob.glob("out.*.xfr"):
-        os.remove(name)
+    """How many milliseconds a program takes, and the most memory that it holds, in MiB."""
+    clean()
     start = time.monotonic()
     child = subprocess.Popen(words, stdout=subprocess.DEVNULL)
     _, status, usage = os.wait4(child.pid, 0)
@@ -82,15 +91,46 @@ def run(words):
         sys.exit("%s ended with status %d" % (" ".join(words), status))
     return 1000 * (time.monotonic() - start), usage.ru_maxrss / 1024
 
-print("%-8s %10s %10s %7s %9s" % ("scene", "ms", "floor ms", "times", "MiB"))
-cels = ["sky.xrl", "matte.xrl"] + sorted(glob.glob("cel*.xrl"))
-for scene, rows, w, h, files in (("cutout", 24, 1920, 1080, cels), ("hold", 96, 1920, 1080, ["sky.xrl"]),
-                                 ("chain", 8, 640, 360, ["small.xrl"]), ("blurs", 8, 640, 360, ["small.xrl"])):
-    render = [program, "render", scene + ".json", "1", str(rows), workers, "out"]
-    floor = ["./floor", "out", "1", str(rows), str(12 + 4 * w * h)] + files
-    times = [(run(render), run(floor)) for _ in range(5)]
+def compare(name, render, floor):
+    """Prints the times of a render and of its floor."""
+    times = [(run(render), run(floor)) for _ in TIMES]
     most = max(it[0][1] for it in times)
     ours, theirs = (statistics.median(it[i][0] for it in times) for i in (0, 1))
-    print("%-8s %10.1f %10.1f %7.2f %9.1f" % (scene, ours, theirs, ours / theirs, most))
+    print("%-8s %10.1f %10.1f %7.2f %9.1f" % (name, ours, theirs, ours / theirs, most))
+
+def floor(base, rows, w, h, files):
+    return ["./floor", base, "1", str(rows), str(12 + 4 * w * h)] + files
+
+def timed(words):
+    """The numbers of each line that a program prints."""
+    clean()
+    lines = subprocess.run(words, check=True, stdout=subprocess.PIPE).stdout.decode().splitlines()
+    return [[float(number) for number in re.findall(r"\d+\.\d+", line)] for line in lines]
+
+def medians(runs, line):
+    return tuple(statistics.median(numbers) for numbers in zip(*(run[line] for run in runs)))
+
+# A scene, its rows, the sides of a frame, the files that are read, and the kind of its operations where there are many.
+cels = ["sky.xrl", "matte.xrl"] + sorted(glob.glob("cel*.xrl"))
+SCENES = (("cutout", 24, 1920, 1080, cels, []), ("hold", 96, 1920, 1080, ["sky.xrl"], []),
+          ("chain", 8, 640, 360, ["small.xrl"], ["pairs"]), ("blurs", 8, 640, 360, ["small.xrl"], ["blurs"]))
+
+print("%-8s %10s %10s %7s %9s" % ("scene", "ms", "floor ms", "times", "MiB"))
+for scene, rows, w, h, files, _ in SCENES:
+    render = [program, "render", scene + ".json", "1", str(rows), workers, "out"]
+    compare(scene, render, floor("out", rows, w, h, files))
+# A generated scene reads no file.
+compare("made", [program, "make", "7", "240", workers], floor("make", 240, 192, 128, []))
+
+print("\n%-8s" % "scene" + " %8s" * 7 % ("ms", "scene", "plan", "files", "compute", "write", "rest"))
+beside = []
+for scene, rows, _, _, _, kinds in SCENES:
+    runs = [timed([timing, "render", scene + ".json", "1", str(rows)] + kinds) for _ in TIMES]
+    print("%-8s" % scene + " %8.1f" * 7 % medians(runs, 0))
+    beside += [(scene,) + medians(runs, 1) for _ in kinds]
+
+print("\n%-8s %10s %10s %7s" % ("scene", "compute", "kernels", "times"))
+for row in beside:
+    print("%-8s %10.1f %10.1f %7.2f" % row)
 END
-python3 time.py "$program" "$workers"
+python3 time.py "$program" "$timing" "$workers"

@@ -1,17 +1,12 @@
 -- Lemmas on the plan whose making is timed
-use Rattle.std.proofs.Common.{◌≡◌, ◌<◌, ◌≤◌, ◌*◌, ◌/◌, ◌%◌, ℕ, zero, suc, false, leb, ◌↔◌, List, [], ◌∷◌, ◌++◌, Option, Some, None, IfSome, All, Contains, length, get_or, replicate, slice_get, refl, sym, ap, ap₂, ◌∙◌, subst, ⊎_elim, arith}
-use Rattle.std.specs.Int.{div_ceil}
+use Rattle.std.proofs.Common.{◌≡◌, ◌<◌, ◌≤◌, ◌*◌, ◌%◌, ℕ, false, List, [], ◌∷◌, ◌++◌, Option, Some, None, IfSome, All, Contains, length, get_or, replicate, slice_get, refl, sym, ap, ◌∙◌, subst, ⊎_elim, arith}
 use Rattle.std.proofs.lemmas.Bool.{cases_lt}
 use Rattle.std.proofs.lemmas.List.{length_push, length-replicate, get_or-replicate, get_or_append_left, get_or_default, get_or_push}
-use Rattle.std.proofs.lemmas.List.Sums.{count_by-le-length}
 use Rattle.std.proofs.lemmas.Option.{slice_get-get_or}
-use Rattle.xs_base.specs.declared.limits.TheConstants.{SECTION_ROWS}
 use Rattle.xs_rect.specs.Area.{Area}
-use Rattle.xs_plan.specs.Record.{Entry, PlanRecord, entry_at, no_entry, drawing_of, input_rect, is_clear_job}
-use Rattle.xs_plan.specs.Sections.{first_section, sections_in}
-use Rattle.xs_plan.specs.Needed.{needs, last_section_of}
+use Rattle.xs_plan.specs.Record.{Entry, entry_at, no_entry, drawing_of, input_rect, is_clear_job}
 use Rattle.xs_plan.specs.Valid.{IsInput, Reaches}
-use Rattle.xs_plan.specs.Draft.{Draft, AreLast, LacksRoots, next_tile, with_entry, with_root}
+use Rattle.xs_plan.specs.Draft.{Draft, LacksRoots, next_tile, with_entry, with_root}
 use Rattle.xs_timing.specs.declared.plans.TheConstants.{TILES, ROWS}
 use Rattle.xs_timing.specs.Made.{IsLast, IsMade, tile_area}
 

@@ -18,11 +18,12 @@ use xs_rect::Rect;
 const ROUNDS: u32 = 400;
 
 /// An answer that no input of this part has.
-fn out_of_range() -> io::Error {
+pub fn out_of_range() -> io::Error {
     io::Error::from(io::ErrorKind::InvalidInput)
 }
 
-fn out_of_memory() -> io::Error {
+/// An answer for want of memory.
+pub fn out_of_memory() -> io::Error {
     io::Error::from(io::ErrorKind::OutOfMemory)
 }
 
@@ -36,9 +37,10 @@ fn noise(random: &mut Random) -> Pixel {
 }
 
 /// Puts a pixel that looks random at each point.
-fn fill(raster: &mut Raster, random: &mut Random) {
-    for y in -16..208i32 {
-        for x in -16..208i32 {
+pub fn fill(raster: &mut Raster, random: &mut Random) {
+    let all = raster.rect();
+    for y in all.y()..all.y() + all.h() as i32 {
+        for x in all.x()..all.x() + all.w() as i32 {
             let pixel = noise(random);
             if raster.has_bytes() && raster.rect().contains(x, y) {
                 raster.put_row(x, y, &pixel.to_bytes());

@@ -33,8 +33,8 @@ const MOVING_ROWS: u32 = 1024;
 /// Rows of a range.
 #[derive(Clone, Copy)]
 pub struct Rows {
-    from: u32,
-    to: u32,
+    pub from: u32,
+    pub to: u32,
     ghost range: { (1 ≤ from) × (from ≤ to) × (to ≤ LAST_ROW) × (to + 1 - from ≤ MOST_ROWS) },
 }
 
@@ -50,7 +50,7 @@ pub fn rows_of(from: &str, to: &str) -> Option<Rows> {
 }
 
 /// The plan of the rows of a scene.
-fn plan_rows(alloc: Global, good: &GoodScene, rows: Rows) -> io::Result<Plan> {
+pub fn plan_rows(alloc: Global, good: &GoodScene, rows: Rows) -> io::Result<Plan> {
     match plan(alloc, good, rows.from, rows.to) {
         Ok(plan) => Ok(plan),
         Err(_) => Err(io::Error::from(io::ErrorKind::OutOfMemory)),
@@ -123,7 +123,8 @@ pub fn time_most<R: Print + Clock + Files + AllocGlobal>(rt: &R, alloc: Global) 
     print_peak(rt)
 }
 
-fn told(status: Status) -> io::Result<()> {
+/// An error where a call did not come through.
+pub fn told(status: Status) -> io::Result<()> {
     match status {
         Status::Ok => Ok(()),
         _ => Err(io::Error::from(io::ErrorKind::InvalidInput)),
@@ -131,7 +132,7 @@ fn told(status: Status) -> io::Result<()> {
 }
 
 /// The scene in the working folder with this name.
-fn scene_name(alloc: Global, name: &str) -> io::Result<Name> {
+pub fn scene_name(alloc: Global, name: &str) -> io::Result<Name> {
     match Name::new(String::from_str(alloc, name)?) {
         Some(name) => Ok(name),
         None => Err(io::Error::from(io::ErrorKind::InvalidInput)),

@@ -1,19 +1,26 @@
-//! Times parts of the renderer on input that it makes in memory. The first word names the part. Without
-//! words, or where they name no part, the parts are listed and the status is 2.
+//! Times parts of the renderer on input that it makes in memory or reads from the working folder. The first word names
+//! the part. Without words, or where they name no part, the parts are listed and the status is 2.
 #![tactic(auto)]
 
 mod blurs;
 mod checking;
 mod dry;
 mod frame;
+mod kernel_calls;
 mod kernels;
 mod plans;
+mod renders;
 mod scene_text;
 mod script;
 mod sharing;
 mod tiles;
+mod timed_bench;
+mod timed_library;
+mod timed_shelf;
+mod watch;
 
 use dry::{Rows, rows_of};
+use kernel_calls::Kernels;
 use std::process::ExitCode;
 use std::rt::{Clock, Files};
 use std::{env, io};
@@ -30,6 +37,9 @@ xs_timing plan: building a plan at the limits, beside filling 600 MiB, and the m
 xs_timing dry-most: planning at the limits, beside building as many aliases, and the most memory after each
 xs_timing dry SCENE FROM TO: planning rows of a scene, the least of five times, and the most memory
 xs_timing dry-lines SCENE FROM TO: listing their demand, beside writing the same bytes; told on standard error
+xs_timing render SCENE FROM TO: where the time of a render by one worker goes; the frames are named by out
+xs_timing render SCENE FROM TO pairs: and its operations on two inputs beside their kernel calls alone
+xs_timing render SCENE FROM TO blurs: and its blurs beside their kernel calls alone
 xs_timing decode MIB: reading a scene text of so many MiB without a blank
 xs_timing decode-indented MIB: reading one that is indented
 xs_timing decode-line MIB: reading one on one line
@@ -63,7 +73,7 @@ fn time_part<R: Print + Clock + Files + AllocGlobal>(rt: &R, part: &str) -> io::
     Ok(true)
 }
 
-/// Times the demand of rows of a scene; false where no part has this name.
+/// Times the demand or a render of rows of a scene; false where no part has this name.
 fn time_rows<R: Print + Eprint + Clock + Files + AllocGlobal>(
     rt: &R,
     part: &str,
@@ -73,7 +83,23 @@ fn time_rows<R: Print + Eprint + Clock + Files + AllocGlobal>(
     match part {
         "dry" => dry::time_file(rt, rt.alloc(), scene, rows)?,
         "dry-lines" => dry::time_lines(rt, scene, rows)?,
+        "render" => renders::time(rt, scene, rows, None)?,
         _ => return Ok(false),
+    }
+    Ok(true)
+}
+
+/// Times a render of rows of a scene, and the kernel calls of its operations of the kind that a word names; false where
+/// it names none.
+fn time_kernels<R: Print + Clock + Files + AllocGlobal>(
+    rt: &R,
+    scene: &str,
+    rows: Rows,
+    kind: &str,
+) -> io::Result<bool> {
+    match Kernels::of(kind) {
+        Some(kernels) => renders::time(rt, scene, rows, Some(kernels))?,
+        None => return Ok(false),
     }
     Ok(true)
 }
@@ -92,6 +118,12 @@ fn time_words<R: Print + Eprint + Clock + Files + AllocGlobal>(
         [part, scene, from, to] => match rows_of(from.as_str(), to.as_str()) {
             Some(rows) => time_rows(rt, part.as_str(), scene.as_str(), rows),
             None => Ok(false),
+        },
+        [part, scene, from, to, kind] => match rows_of(from.as_str(), to.as_str()) {
+            Some(rows) if part.as_str() == "render" => {
+                time_kernels(rt, scene.as_str(), rows, kind.as_str())
+            }
+            _ => Ok(false),
         },
         _ => Ok(false),
     }

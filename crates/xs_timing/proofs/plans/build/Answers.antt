@@ -1,7 +1,6 @@
 -- At first there are the tiles alone; at the end drawing 0 alone is needed.
-use Rattle.std.proofs.Common.{◌≡◌, ◌<◌, ◌++◌, [], ◌∷◌, Option, Some, List, ℕ, length, replicate, sym, refl, ap, ◌∙◌, arith}
-use Rattle.xs_plan.specs.Record.{Entry}
-use Rattle.xs_timing.specs.declared.plans.TheConstants.{TILES, ROWS}
+use Rattle.std.proofs.Common.{replicate, refl, ap, ◌∙◌, arith}
+use Rattle.xs_timing.specs.declared.plans.TheConstants.{TILES}
 use Rattle.xs_timing.proofs.MadeLemmas.{needed-zero}
 use Rattle.xs_timing.proofs.plans.build.Goals as goal
 
